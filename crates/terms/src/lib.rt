@@ -1,0 +1,2 @@
+// The terms that every layer shares.
+pub mod sets;
