@@ -1,0 +1,4 @@
+pub mod Seniority
+pub mod Tables
+pub mod Histories
+pub mod Holdings
