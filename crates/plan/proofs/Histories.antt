@@ -234,32 +234,32 @@ same-bit w v s f g = elim (cases-eq (bit w s) 1) [
   | inr n ↦ elim (cases-eq (bit v s) 1) [ inl e ↦ absurd (n (g e)) | inr k ↦ omega (arith, bit-two w s, bit-two v s) ]
 ]
 
-asked-fit : (p : Plan) → p .«policy_count» ≤ length (p .policies)
-asked-fit p = elim (cases-lt (length (p .policies)) (p .«policy_count»)) [
+policies-fit : (p : Plan) → p .«policy_count» ≤ length (p .policies)
+policies-fit p = elim (cases-lt (length (p .policies)) (p .«policy_count»)) [
   | inl l ↦ absurd (let z = getD-past (p .policies) (length (p .policies)) (record { permissions = 0; least = 0 }) (omega arith) in omega (arith, p .several (length (p .policies)) l, ap (λ c. c .least) z))
   | inr g ↦ g
 ]
 
-bound-fit : (p : Plan) → p .«constraint_count» ≤ length (p .constraints)
-bound-fit p = elim (cases-lt (length (p .constraints)) (p .«constraint_count»)) [
+constraints-fit : (p : Plan) → p .«constraint_count» ≤ length (p .constraints)
+constraints-fit p = elim (cases-lt (length (p .constraints)) (p .«constraint_count»)) [
   | inl l ↦ absurd (let z = getD-past (p .constraints) (length (p .constraints)) (record { roles = 0; limit = 0 }) (omega arith) in omega (arith, p .limited (length (p .constraints)) l, ap (λ c. c .limit) z))
   | inr g ↦ g
 ]
 
-pub asked-is : (xs : List Addition) (p : Plan) → Means xs p → p .«policy_count» ≡ length (policies xs)
-asked-is xs p m = omega (arith, length-take (p .«policy_count») (p .policies), asked-fit p, ap length (m .policies))
+pub policies-counted : (xs : List Addition) (p : Plan) → Means xs p → p .«policy_count» ≡ length (policies xs)
+policies-counted xs p m = omega (arith, length-take (p .«policy_count») (p .policies), policies-fit p, ap length (m .policies))
 
-pub bound-is : (xs : List Addition) (p : Plan) → Means xs p → p .«constraint_count» ≡ length (constraints xs)
-bound-is xs p m = omega (arith, length-take (p .«constraint_count») (p .constraints), bound-fit p, ap length (m .constraints))
+pub constraints-counted : (xs : List Addition) (p : Plan) → Means xs p → p .«constraint_count» ≡ length (constraints xs)
+constraints-counted xs p m = omega (arith, length-take (p .«constraint_count») (p .constraints), constraints-fit p, ap length (m .constraints))
 
 pub rows-same : (xs : List Addition) (p q : Plan) → Means xs p → Means xs q → (x : Addition) → rows p x ≡ rows q x
 rows-same xs p q m n (add.Senior s j) = ap (λ b. firstOf (when (ltb 63 s || ltb 63 j) (refusal 1 []) ∷ when (not (eqb s j) && eqb b 1) (refusal 3 []) ∷ []))
     (same-bit (getD (p .juniors) j 0) (getD (q .juniors) j 0) s (λ h. n .senior-all j s (m .senior-only j s h)) (λ h. m .senior-all j s (n .senior-only j s h)))
 rows-same xs p q m n (add.Grant r k) = refl
 rows-same xs p q m n (add.Policy w k) = ap (λ b. firstOf (when (ltb k 2 || ltb (ones w) k || ltb 8 k) (refusal 4 []) ∷ when (ltb 16 (ones w)) (refusal 5 []) ∷ when (leb 32 b) (refusal 6 []) ∷ []))
-    (asked-is xs p m ∙ sym (asked-is xs q n))
+    (policies-counted xs p m ∙ sym (policies-counted xs q n))
 rows-same xs p q m n (add.Constraint w t) = ap (λ b. firstOf (when (ltb t 2 || ltb (ones w) t) (refusal 4 []) ∷ when (leb 64 b) (refusal 6 []) ∷ []))
-    (bound-is xs p m ∙ sym (bound-is xs q n))
+    (constraints-counted xs p m ∙ sym (constraints-counted xs q n))
 
 pub additive : Additive
 additive xs p q x m h = means-more xs p q m x h

@@ -2,6 +2,7 @@
 // policies say how many people a set of permissions takes, and which constraints exclude roles from each other.
 ghost use mathlib.Core.Path.{_≡_};
 ghost use Prim.Native.Nat.{ℕ, _<_, _≤_};
+ghost use lib.ListN.{length};
 ghost use Rattle.plan.specs.Limits.{AtLeastTwo, AtMostEight, Fitting, Narrow, Limited};
 ghost use Rattle.plan.specs.Order.{Reflexive, Transitive, Antisymmetric};
 use terms::sets::PermissionSet;
@@ -64,6 +65,7 @@ pub struct Plan {
     ghost fitting: { Fitting policies «policy_count» },
     ghost narrow: { Narrow policies «policy_count» },
     ghost limited: { Limited constraints «constraint_count» },
+    ghost whole: { length grants ≡ 64 },
 }
 
 // One thing to be added to a plan.

@@ -101,6 +101,9 @@ or-assoc a b c = same-digits _ _ (λ k. omega (arith, bit-or (bitOr a b) c k, bi
 pub none-in : {A : Type 0} (k : ℕ) → In k 0 → A
 none-in k h = absurd (omega (arith, bit-zero k))
 
+pub nothing-left : (w : ℕ) → Within w 0 → w ≡ 0
+nothing-left w h = no-digits w (λ k. elim (cases-eq (bit w k) 1) [ inl e ↦ none-in k (h k e) | inr n ↦ let b = bit-two w k in omega arith ])
+
 pub no-member : (w : ℕ) → w < 2 ^ 64 → ((k : ℕ) → k < 64 → In k w → ⊥) → w ≡ 0
 no-member w f h = no-digits w (λ k. elim (cases-lt k 64) [
   | inl l ↦ elim (cases-eq (bit w k) 1) [ inl e ↦ absurd (h k l e) | inr n ↦ let b = bit-two w k in omega arith ]
@@ -130,7 +133,7 @@ and-twice w g = same-digits (bitAnd w (bitAnd w g)) (bitAnd w g) (λ k. omega (a
 cut-sum : (w g : ℕ) → bitXor w (bitAnd w g) + bitAnd w g ≡ w
 cut-sum w g = omega (arith, xor-add-and w (bitAnd w g), and-twice w g)
 
-in-pos : (w k : ℕ) → In k w → 0 < w
+pub in-pos : (w k : ℕ) → In k w → 0 < w
 in-pos w k h = elim (cases-eq w 0) [ inl e ↦ none-in k (subst (In k) e h) | inr n ↦ omega arith ]
 
 pub cut : (w g : ℕ) → Difference w g (bitXor w (bitAnd w g))

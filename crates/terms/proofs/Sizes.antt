@@ -23,7 +23,7 @@ low-le a b h = elim (cases-eq (a % 2) 1) [
   | inr n ↦ let z : a % 2 ≡ 0 = omega (arith, mod-lt a (zero-lt-suc 1)) in omega arith
 ]
 
-ones-none : ones 0 ≡ 0
+pub ones-none : ones 0 ≡ 0
 unfolding ones
 ones-none = refl
 

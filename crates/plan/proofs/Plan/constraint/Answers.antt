@@ -28,7 +28,7 @@ ghost-self c =
                       p .narrow,
                       (
                         each-more (λ q. 2 ≤ q .limit) (p .constraints) (p .«constraint_count») _ _ (omega arith) (p .limited) (omega arith),
-                        tt,
+                        (p .whole, tt),
                       ),
                     ),
                   ),

@@ -27,7 +27,7 @@ ghost-self c =
                     each-more (λ q. q .least ≤ ones (q .permissions)) (p .policies) (p .«policy_count») _ _ (omega arith) (p .fitting) (omega arith),
                     (
                       each-more (λ q. ones (q .permissions) ≤ 16) (p .policies) (p .«policy_count») _ _ (omega arith) (p .narrow) (omega arith),
-                      (p .limited, tt),
+                      (p .limited, (p .whole, tt)),
                     ),
                   ),
                 ),

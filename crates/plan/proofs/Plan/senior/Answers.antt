@@ -17,7 +17,7 @@ ghost-self c =
       | else-senior-junior·by·else-senior-junior w ↦ inl (w .if-senior-junior .left)
     ] in
     let m = c .raise .ensures in
-    (reflexive′ _ _ _ _ m (p .reflexive), (transitive′ _ _ _ _ m (p .transitive), (antisymmetric′ _ _ _ _ m (p .transitive) (p .antisymmetric) free, (p .few, (p .bounded, (p .several, (p .eight, (p .fitting, (p .narrow, (p .limited, tt))))))))))
+    (reflexive′ _ _ _ _ m (p .reflexive), (transitive′ _ _ _ _ m (p .transitive), (antisymmetric′ _ _ _ _ m (p .transitive) (p .antisymmetric) free, (p .few, (p .bounded, (p .several, (p .eight, (p .fitting, (p .narrow, (p .limited, (p .whole, tt)))))))))))
 
 pub returns : need.returns
 returns c =

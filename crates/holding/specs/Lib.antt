@@ -1,0 +1,3 @@
+pub mod Holding
+pub mod Tables
+pub mod Search
