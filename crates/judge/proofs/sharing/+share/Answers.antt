@@ -12,20 +12,20 @@ use Rattle.judge.proofs.sharing.+share.Needs.{then-holdable·in-rest-share, el
 
 pub returns-then-not-holdable : need.returns-then-not-holdable
 returns-then-not-holdable t c = record {
-  answer = λ d. c .holdable .ensures .no (c .if-not-holdable .taken) (d .user) (share-holder _ _ _ _ _ d);
+  answer = λ d. c .holdable .ensures .no (c .if-not-holdable .taken) (d .user) (share-holder (c .args .survey .now .plan .now) _ _ _ _ d);
   memo = c .holdable .ensures .memo;
 }
 
 pub returns-in-rest-lowest : need.returns-in-rest-lowest
 returns-in-rest-lowest t c = record {
-  answer = joined-alone _ _ _ _ _ (c .none .result) _ (c .in-rest .ensures tt) (c .in-rest-lowest .ensures tt) (c .none .ensures) (c .joined .ensures);
+  answer = joined-alone (c .args .survey .now .plan .now) (c .args .n) (c .args .open) (c .args .mine) (c .args .left) (c .none .result) (c .joined .result) (c .in-rest .ensures tt) (c .in-rest-lowest .ensures tt) (c .none .ensures) (c .joined .ensures);
   memo = c .holdable .ensures .memo;
 }
 
 pub returns-then-n-shortage : need.returns-then-n-shortage
 returns-then-n-shortage t c = record {
-  answer = λ d. c .shortage .ensures (c .args .survey .now .plan .now) (c .holdable .ensures .memo) (in-pos _ (c .in-Some-lowest .low) (c .in-Some-lowest .ensures tt .member))
-      (share-coverable _ _ _ _ _ (c .shortage .result) (c .if-n-shortage .taken) d);
+  answer = λ d. c .shortage .ensures (c .args .survey .now .plan .now) (c .holdable .ensures .memo) (in-pos (c .args .left) (c .in-Some-lowest .low) (c .in-Some-lowest .ensures tt .member))
+      (share-coverable (c .args .survey .now .plan .now) (c .args .n) (c .args .open) (c .args .mine) (c .args .left) (c .shortage .result) (c .if-n-shortage .taken) d);
   memo = c .holdable .ensures .memo;
 }
 
@@ -33,8 +33,8 @@ pub returns-in-Some-share : need.returns-in-Some-share
 returns-in-Some-share t c =
     let d = c .in-Some-share .ensures tt .answer in
     record {
-      answer = joined-with _ _ _ _ _ (c .in-Some-share .others) _ (c .in-rest .ensures tt) (d .satisfy)
-          (shared-all _ (c .in-Some-lowest .low) _ (one-shl (c .in-Some-lowest .low) 64 (c .in-Some-lowest .ensures tt .low)) (c .args .n) (c .args .left) _ (c .difference .ensures) (c .in-Some-share .others) (c .args .n - 1) d)
+      answer = joined-with (c .args .survey .now .plan .now) (c .args .n) (c .args .open) (c .args .mine) (c .args .left) (c .in-Some-share .others) (c .joined-in-Some-share .result) (c .in-rest .ensures tt) (d .satisfy)
+          (shared-all (c .args .survey .now .plan .now) (c .in-Some-lowest .low) _ (one-shl (c .in-Some-lowest .low) 64 (c .in-Some-lowest .ensures tt .low)) (c .args .n) (c .args .left) (c .difference .result) (c .difference .ensures) (c .in-Some-share .others) (c .args .n - 1) d)
           (omega (arith, d .few, c .if-n-shortage .left))
           (c .joined-in-Some-share .ensures);
       memo = c .share .ensures .memo;
@@ -43,9 +43,9 @@ returns-in-Some-share t c =
 pub returns-in-None : need.returns-in-None
 returns-in-None t c =
     let none : Coverable (c .args .survey .now .plan .now) (c .args .n) (c .args .left) → ⊥ = λ v. c .in-None .ensures tt .answer
-    (cover-share _ (c .in-Some-lowest .low) _ (one-shl (c .in-Some-lowest .low) 64 (c .in-Some-lowest .ensures tt .low)) (c .args .n) (c .args .left) _ (c .difference .ensures) (c .in-Some-lowest .ensures tt .member) v) in
+    (cover-share (c .args .survey .now .plan .now) (c .in-Some-lowest .low) _ (one-shl (c .in-Some-lowest .low) 64 (c .in-Some-lowest .ensures tt .low)) (c .args .n) (c .args .left) (c .difference .result) (c .difference .ensures) (c .in-Some-lowest .ensures tt .member) v) in
     record {
-      answer = λ d. none (share-coverable _ _ _ _ _ (c .args .n) (le-refl (c .args .n)) d);
+      answer = λ d. none (share-coverable (c .args .survey .now .plan .now) (c .args .n) (c .args .open) (c .args .mine) (c .args .left) (c .args .n) (le-refl (c .args .n)) d);
       memo = c .note-short .ensures (c .args .survey .now .plan .now) (c .share .ensures .memo) (λ _. none);
     }
 
@@ -57,16 +57,16 @@ share-requires-then-holdable t c κs =
 
 pub returns-in-Some-share-2 : need.returns-in-Some-share-2
 returns-in-Some-share-2 t c = record {
-  answer = shared-keep _ (c .in-Some .k) _ (one-shl (c .in-Some .k) 64 (c .in-Some .ensures tt .low)) _ _ _ (c .difference-rest .ensures) _ _ (c .in-Some-share-2 .us) (c .in-Some-share-2 .ensures tt .answer);
+  answer = shared-keep (c .args .survey .now .plan .now) (c .in-Some .k) _ (one-shl (c .in-Some .k) 64 (c .in-Some .ensures tt .low)) (c .args .n) (c .args .open) (c .difference-rest .result) (c .difference-rest .ensures) (c .args .mine) (c .args .left) (c .in-Some-share-2 .us) (c .in-Some-share-2 .ensures tt .answer);
   memo = c .share-then-holdable .ensures .memo;
 }
 
 pub returns-then-n-eq0 : need.returns-then-n-eq0
 returns-then-n-eq0 t c = record {
-  answer = share-alone _ (c .in-Some .k) _ (one-shl (c .in-Some .k) 64 (c .in-Some .ensures tt .low)) _ _ _ (c .difference-rest .ensures) _ _ (c .if-n-eq0 .taken) (c .in-Some .ensures tt .member)
+  answer = share-alone (c .args .survey .now .plan .now) (c .in-Some .k) _ (one-shl (c .in-Some .k) 64 (c .in-Some .ensures tt .low)) (c .args .n) (c .args .open) (c .difference-rest .result) (c .difference-rest .ensures) (c .args .mine) (c .args .left) (c .if-n-eq0 .taken) (c .in-Some .ensures tt .member)
       (elim (c .if-holdable .came) [
         | then-holdable·in-rest-share w ↦ w .in-rest-share .ensures tt .answer
-        | else-holdable w ↦ λ d. c .holdable-2 .ensures .no (w .if-holdable .left) (d .user) (share-holder _ _ _ _ _ d)
+        | else-holdable w ↦ λ d. c .holdable-2 .ensures .no (w .if-holdable .left) (d .user) (share-holder (c .args .survey .now .plan .now) _ _ _ _ d)
       ]);
   memo = elim (c .if-holdable .came) [
     | then-holdable·in-rest-share w ↦ subst (MemoRight (c .args .survey .now .plan .now)) (sym (w .memo-is)) (w .share-then-holdable .ensures .memo)
@@ -86,10 +86,10 @@ share-requires-2 t c κs =
 
 pub returns : need.returns
 returns t c = record {
-  answer = share-last _ (c .in-Some .k) _ (one-shl (c .in-Some .k) 64 (c .in-Some .ensures tt .low)) _ _ _ (c .difference-rest .ensures) _ _ (c .share-2 .result) (c .in-Some .ensures tt .member)
+  answer = share-last (c .args .survey .now .plan .now) (c .in-Some .k) _ (one-shl (c .in-Some .k) 64 (c .in-Some .ensures tt .low)) (c .args .n) (c .args .open) (c .difference-rest .result) (c .difference-rest .ensures) (c .args .mine) (c .args .left) (c .share-2 .result) (c .in-Some .ensures tt .member)
       (elim (c .if-holdable .came) [
         | then-holdable·in-rest-share w ↦ w .in-rest-share .ensures tt .answer
-        | else-holdable w ↦ λ d. c .holdable-2 .ensures .no (w .if-holdable .left) (d .user) (share-holder _ _ _ _ _ d)
+        | else-holdable w ↦ λ d. c .holdable-2 .ensures .no (w .if-holdable .left) (d .user) (share-holder (c .args .survey .now .plan .now) _ _ _ _ d)
       ])
       (c .share-2 .ensures .answer);
   memo = c .share-2 .ensures .memo;
