@@ -14,6 +14,8 @@ The families:
   random        8 to 16 permissions, 20 to 64 roles, some seniority, 20 to 64 constraints
   random-whole  the same with every limit the size of its set
   pairs         16 permissions with three roles each and 64 exclusive pairs, k = 2
+  dense         16 permissions with two or three of 16 to 24 roles each and 64 exclusive pairs
+  cliques       one role for each of 8 to 11 permissions, every two of them exclusive
 
 In the CNF user i and role r are variable 64 * i + r + 1. For each user there is a clause for each
 pair of different roles in seniority (not the senior, or the junior), then the clauses of each
@@ -132,17 +134,28 @@ def random_plan(rng, whole):
     return w
 
 
-def exclusive_pairs(rng, roles):
+def exclusive_pairs(rng, roles, each, k):
     w = Written()
     for permission in range(16):
-        for role in rng.sample(range(roles), 3):
+        for role in rng.sample(range(roles), each):
             w.grant(role, permission)
     pairs = set()
     while len(pairs) < 64:
         pairs.add(some_roles(rng, roles, 2))
     for pair in sorted(pairs):
         w.constraint(2, pair)
-    w.policy(2, (1 << 16) - 1)
+    w.policy(k, (1 << 16) - 1)
+    return w
+
+
+def clique(roles, k):
+    w = Written()
+    for role in range(roles):
+        w.grant(role, role)
+    for a in range(roles):
+        for b in range(a + 1, roles):
+            w.constraint(2, 1 << a | 1 << b)
+    w.policy(k, (1 << roles) - 1)
     return w
 
 
@@ -179,7 +192,16 @@ def families():
     for roles in (24, 32, 40, 48, 64):
         for i in range(6):
             yield ("pairs-%d-%d" % (roles, i), "pairs", "2", 0.01, None,
-                   exclusive_pairs(rng, roles))
+                   exclusive_pairs(rng, roles, 3, 2))
+    for roles in (16, 18, 20, 24):
+        for each in (2, 3):
+            for k in range(2, 7):
+                yield ("dense-%d-%d-k%d" % (roles, each, k), "dense", "2", 0.2, None,
+                       exclusive_pairs(rng, roles, each, k))
+    for roles in range(8, 12):
+        for k in range(2, 9):
+            yield ("cliques-%d-k%d" % (roles, k), "cliques", "2", 0.1, roles,
+                   clique(roles, k))
 
 
 def main(arguments):

@@ -153,6 +153,8 @@ def edge_numbers(rng):
         count = {"new": 0, "judge": 0, "senior": 2, "grant": 2}.get(name, rng.randint(0, 5))
         numbers = [rng.choice(EDGES) if rng.random() < 0.5 else rng.randrange(66)
                    for _ in range(count)]
+        if numbers and rng.random() < 0.1:
+            numbers[rng.randrange(count)] = rng.choice(TOO_LARGE)
         lines.append(join(name, *numbers))
     return lines + ["judge"]
 
@@ -208,7 +210,7 @@ def decorated(rng, lines, damage):
             line = line.encode()
         if rng.random() < 0.05:
             text += rng.choice([b"", b"#", b"# a comment", b"#judge", b"#\t\x00\xff -> accepted", b"\r",
-                                b"# two\r\r"]) + b"\n"
+                                b"# two\r\r", b" # no comment", b" "]) + b"\n"
         if rng.random() < damage:
             line = damaged(rng, line)
         end = b"\n"

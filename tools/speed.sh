@@ -7,6 +7,7 @@
 # The solvers minisat and cadical are run beside it where they are installed.
 #   SOLVERS=all         on which plans: all, canonical or none
 #   SOLVER_LIMIT=10     seconds that a solver may take for one plan (all plans take up to an hour)
+#   CLOCK=wall          wall, or cpu for processor time, which a busy machine disturbs less
 #   ONLY=               only plans whose name begins so, such as random or all-roles-t3
 set -eu
 tools=$(dirname "$0")
