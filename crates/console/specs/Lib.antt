@@ -1,0 +1,4 @@
+pub mod Answering
+pub mod Lines
+pub mod Performed
+pub mod Words
