@@ -1,0 +1,4 @@
+mod Numbers
+mod Cutting
+mod Naming
+mod Noting

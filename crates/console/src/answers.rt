@@ -1,0 +1,88 @@
+// What calls are answered, and how it is printed.
+ghost use mathlib.Core.Path.{_≡_};
+ghost use Rattle.console.specs.Answering.{counted};
+use super::tally::Outcome;
+use judge::JudgeFault;
+use judge::Witness;
+use plan::PlanFault;
+use std::fmt;
+use terms::sets::contains;
+
+// A set of roles or of permissions.
+#[derive(Clone, Copy)]
+pub(crate) struct Members {
+    pub(crate) set: u64,
+}
+
+pub(crate) impl fmt::Display for Members as MembersDisplay {
+    fn fmt<W: fmt::Write>(&self, f: &mut fmt::Formatter<W>) -> fmt::Result {
+        write!(f, "{{")?;
+        let mut parted = false;
+        for member in 0u32..64 {
+            if contains(self.set, member) {
+                if parted {
+                    write!(f, " ")?;
+                }
+                write!(f, "{member}")?;
+                parted = true;
+            }
+        }
+        write!(f, "}}")
+    }
+}
+
+// Why a plan is not accepted, and who could break which of its policies.
+#[derive(Clone, Copy)]
+pub(crate) struct Breach {
+    pub(crate) fault: JudgeFault,
+    pub(crate) witness: Witness,
+}
+
+pub(crate) impl fmt::Display for Breach as BreachDisplay {
+    fn fmt<W: fmt::Write>(&self, f: &mut fmt::Formatter<W>) -> fmt::Result {
+        let number = self.fault.number();
+        let policy = self.witness.policy;
+        let users = self.witness.users;
+        write!(f, "refused {number} policy {policy} users {users} roles")?;
+        for roles in self.witness.roles.iter().take(users) {
+            let members = Members { set: *roles };
+            write!(f, " {members}")?;
+        }
+        Ok(())
+    }
+}
+
+// The answer to a call.
+#[derive(Clone, Copy)]
+pub(crate) enum Answer {
+    Accepted,
+    Refused(PlanFault),
+    Breachable(Breach),
+    Set(Members),
+}
+
+impl Answer {
+    // What it counts as.
+    pub(super) fn outcome(&self) -> Outcome
+        ensures { λ r. ⌜ r ≡ counted (now (self .entry)) ⌝ }
+    {
+        match self {
+            Answer::Accepted | Answer::Set(_) => Outcome::Accepted,
+            Answer::Refused(_) | Answer::Breachable(_) => Outcome::Refused,
+        }
+    }
+}
+
+pub(crate) impl fmt::Display for Answer as AnswerDisplay {
+    fn fmt<W: fmt::Write>(&self, f: &mut fmt::Formatter<W>) -> fmt::Result {
+        match self {
+            Answer::Accepted => write!(f, "accepted"),
+            Answer::Refused(fault) => {
+                let number = fault.number();
+                write!(f, "refused {number}")
+            }
+            Answer::Breachable(breach) => write!(f, "{breach}"),
+            Answer::Set(members) => write!(f, "{members}"),
+        }
+    }
+}

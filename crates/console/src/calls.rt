@@ -1,0 +1,17 @@
+use plan::Addition;
+use terms::sets::RoleSet;
+
+// One call of the service.
+#[derive(Clone, Copy)]
+pub(crate) enum Call {
+    // an empty plan is begun
+    New,
+    // an addition to the plan now being written
+    Add(Addition),
+    // the roles that a user with these roles is authorised for
+    AuthorisedRoles(RoleSet),
+    // the permissions that he holds
+    HeldPermissions(RoleSet),
+    // the plan now being written is judged
+    Judge,
+}
