@@ -2,3 +2,4 @@ mod Numbers
 mod Cutting
 mod Naming
 mod Noting
+mod Shown

@@ -1,5 +1,6 @@
 pub mod Answering
 pub mod Lines
 pub mod Performed
+pub mod Printing
 pub mod Tallying
 pub mod Words

@@ -1,6 +1,8 @@
 // What calls are answered, and how it is printed.
 ghost use mathlib.Core.Path.{_≡_};
+ghost use Rattle.std.specs.declared.option.Option.the-variants.{Some};
 ghost use Rattle.console.specs.Answering.{counted};
+ghost use Rattle.console.specs.Printing.{set-text};
 use super::tally::Outcome;
 use judge::JudgeFault;
 use judge::Witness;
@@ -15,15 +17,18 @@ pub(crate) struct Members {
 }
 
 pub(crate) impl fmt::Display for Members as MembersDisplay {
+    ghost shown = { λ m. Some (set-text (m .set)) };
+
     fn fmt<W: fmt::Write>(&self, f: &mut fmt::Formatter<W>) -> fmt::Result {
         write!(f, "{{")?;
         let mut parted = false;
         for member in 0u32..64 {
             if contains(self.set, member) {
                 if parted {
-                    write!(f, " ")?;
+                    write!(f, " {member}")?;
+                } else {
+                    write!(f, "{member}")?;
                 }
-                write!(f, "{member}")?;
                 parted = true;
             }
         }
