@@ -1,5 +1,7 @@
 -- The digits read so far, and the number that they write. Assumes nothing.
 use mathlib.Core.Path.{_≡_, refl, sym, ap, subst, _∙_}
+use mathlib.Core.Bool.{true, false}
+use mathlib.Core.Logic.{⊎-elim}
 use mathlib.Core.List.{List, [], _∷_, _++_}
 use Prim.Native.Nat.{ℕ, zero, suc, _+_, _-_, _*_, _^_, _≤_, _<_}
 use native.Mathlib.Omega.{arith}
@@ -7,7 +9,11 @@ use lib.ListN.{length, getD, take}
 use lib.Pow.{pow-add}
 use native.Mathlib.Nat.{pow-le-pow-right}
 use Rattle.std.proofs.shelf.Lists.{take-more}
-use Rattle.text.specs.Numbers.{Digit, AllDigits, valueAfter}
+use Rattle.std.proofs.shelf.Tests.{cases-eq}
+use Rattle.text.specs.Grammar.{escape}
+use Rattle.text.specs.Numbers.{Digit, AllDigits, valueAfter, Number}
+use Rattle.text.specs.Laws.{SameNumber}
+use Rattle.text.proofs.Contents.{escape-quote, escape-other}
 
 digits-push : (c : List ℕ) (b : ℕ) → AllDigits c → Digit b → AllDigits (c ++ b ∷ [])
 digits-push [] b a p = (p, tt)
@@ -41,3 +47,23 @@ power-up n i j l h = let p = power-le i j h in omega arith
 -- a number of fewer than 19 digits has room for one more
 pub room : (n i : ℕ) → n < 10 ^ i → i < 19 → n * 10 + 9 < 2 ^ 64
 room n i l h = let p = power-le i 18 (omega arith) in omega arith
+
+-- digits stand in quotes as they are
+digits-escape : (c : List ℕ) → AllDigits c → escape c ≡ c
+digits-escape [] a = refl
+digits-escape (b ∷ c) a = let d = a .0 in escape-other c b (λ e. omega arith) ∙ ap (λ l. b ∷ l) (digits-escape c (a .1))
+
+escape-digits : (c : List ℕ) → AllDigits (escape c) → escape c ≡ c
+escape-digits [] a = refl
+escape-digits (b ∷ c) a =
+    ⊎-elim
+    (λ e. let h = subst AllDigits (escape-quote c b e) a in let d = h .0 in absurd (omega arith))
+    (λ n. let h = subst AllDigits (escape-other c b n) a in escape-other c b n ∙ ap (λ l. b ∷ l) (escape-digits c (h .1)))
+    (cases-eq b 34)
+
+pub same-number : SameNumber
+same-number limit false c n = (λ h. h, λ h. h)
+same-number limit true c n = (
+  λ h. subst (λ l. Number limit l n) (escape-digits c (h .numeral .digits)) h,
+  λ h. subst (λ l. Number limit l n) (sym (digits-escape c (h .numeral .digits))) h,
+)

@@ -1,12 +1,12 @@
 -- A text has one first line. Assumes nothing.
-use mathlib.Core.Path.{_≡_, refl, sym, ap, subst, _∙_}
-use mathlib.Core.Logic.{_⊎_, inl, inr, ⊎-elim}
+use mathlib.Core.Path.{_≡_, ap, _∙_}
+use mathlib.Core.Logic.{_⊎_, ⊎-elim}
 use mathlib.Core.List.{List}
-use Prim.Native.Nat.{ℕ, _+_, _<_}
+use Prim.Native.Nat.{ℕ, _<_}
 use native.Mathlib.Omega.{arith}
-use lib.ListN.{length, take}
+use lib.ListN.{take}
 use Rattle.std.proofs.shelf.Tests.{cases-order}
-use Rattle.text.specs.FirstLine.{LineAt, NoLineBefore, FirstLine, Headed, NotHeaded}
+use Rattle.text.specs.FirstLine.{FirstLine, Headed, NotHeaded}
 
 not-before : (s : List ℕ) (i n j m : ℕ) → FirstLine s i n → FirstLine s j m → i < j → ⊥
 not-before s i n j m h k l =

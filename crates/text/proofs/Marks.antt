@@ -6,14 +6,14 @@ use Prim.Native.Nat.{ℕ, _+_, _≤_, _<_}
 use native.Mathlib.Omega.{arith}
 use lib.ListN.{length, getD, drop, length-drop}
 use Rattle.std.proofs.shelf.Lists.{drop-more, drop-all, getD-drop}
-use Rattle.std.proofs.shelf.Tests.{cases-eq, cases-lt}
+use Rattle.std.proofs.shelf.Tests.{cases-lt}
 use native.Mathlib.Nat.{add-zero}
 use Rattle.text.specs.declared.field.Mark.{Mark}
 use Rattle.text.specs.declared.field.Mark.the-variants.{Comma, Line, End}
 use Rattle.text.specs.Grammar.{escape, sign, Ends}
 use Rattle.text.specs.FirstLine.{LineAt}
 use Rattle.text.specs.Scans.{EscapedTo, Unclosed, NoQuote, MarkTo}
-use Rattle.text.proofs.Contents.{escape-quote, escape-other, escape-append}
+use Rattle.text.proofs.Contents.{escape-other, escape-append}
 
 pub mark-end : (s : List ℕ) (i : ℕ) → i ≡ length s → MarkTo s i End i
 mark-end s i e = record { split = refl; ends = drop-all i s (omega arith); after = omega arith; within = omega arith }

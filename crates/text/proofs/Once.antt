@@ -1,7 +1,7 @@
 -- A text begins with at most one field, with at most one record, and has at most one reading. Assumes nothing.
 use mathlib.Core.Path.{_≡_, refl, sym, ap, subst, _∙_}
 use mathlib.Core.Bool.{Bool, true, false}
-use mathlib.Core.List.{List, [], _∷_, _++_, append-assoc}
+use mathlib.Core.List.{List, [], _∷_, _++_}
 use Prim.Native.Nat.{ℕ, suc}
 use native.Mathlib.Omega.{arith}
 use lib.ListN.{length, drop}
@@ -14,7 +14,7 @@ use Rattle.text.specs.declared.record.Extent.{Extent}
 use Rattle.text.specs.Grammar.{escape, sign, Ends, Fielded, NoRecord, NoRecordOf, Recorded, ReadsTo, Reading}
 use Rattle.text.specs.Grammar.Recorded.{last, more}
 use Rattle.text.specs.Grammar.ReadsTo.{none, next}
-use Rattle.text.specs.Taken.{Took, TookRecord}
+use Rattle.text.specs.Taken.{Took, TookRecord, Bodies, Handed, Skipped}
 use Rattle.text.specs.Taken.TookRecord.{last as took-last, more as took-more}
 use Rattle.text.specs.Faults.{Broken, Miscounted, Cause, ColumnsRefused}
 use Rattle.text.specs.Faults.Broken.{here, later}
@@ -74,16 +74,25 @@ took-comma : (s : List ℕ) (at after : ℕ) (f : Field) (h : Took s at f after)
 took-comma s at after f h e = subst (λ m. Fielded (drop at s) (f .quoted) (h .content) m (drop after s)) e (h .fielded)
 
 -- the fields handed out are a record
-pub took-recorded : (s : List ℕ) (at end after : ℕ) (fs : List Field) → TookRecord s at fs end after → (cs : List (List ℕ)) × Recorded (drop at s) cs (drop after s) × (length cs ≡ length fs)
-took-recorded s at end after _ (took-last h n) = (h .content ∷ [], last (h .fielded) n, refl)
-took-recorded s at end after _ (took-more h e t) =
-    let r = took-recorded s _ end after _ t in
-    (h .content ∷ r .0, more (took-comma s at _ _ h e) (r .1), ap suc (r .2))
+pub handed : (s : List ℕ) (at end after : ℕ) (fs : List Field) → TookRecord s at fs end after → Handed s at fs after
+handed s at end after fs t = let r = recorded s at end after fs t in record { end = end; took = t; contents = r .0; recorded = r .1; bodies = r .2 }
+  where
+    recorded : (s : List ℕ) (at end after : ℕ) (fs : List Field) → TookRecord s at fs end after → (cs : List (List ℕ)) × Recorded (drop at s) cs (drop after s) × Bodies fs cs
+    recorded s at end after _ (took-last h n) = (h .content ∷ [], last (h .fielded) n, (h .bytes, tt))
+    recorded s at end after _ (took-more h e t) =
+        let r = recorded s _ end after _ t in
+        (h .content ∷ r .0, more (took-comma s at _ _ h e) (r .1), (h .bytes, r .2))
+
+bodies-length : (fs : List Field) (cs : List (List ℕ)) → Bodies fs cs → length cs ≡ length fs
+bodies-length [] [] h = refl
+bodies-length [] (c ∷ cs) h = absurd h
+bodies-length (f ∷ fs) [] h = absurd h
+bodies-length (f ∷ fs) (c ∷ cs) h = ap suc (bodies-length fs cs (h .1))
 
 pub miscounted-none : (s : List ℕ) (columns at end : ℕ) (fs : List Field) → Miscounted s columns at fs end → NoRecordOf columns (drop at s)
 miscounted-none s columns at end fs h cs rest l k =
-    let r = took-recorded s at end (h .next) fs (h .took) in
-    h .other (sym (r .2) ∙ ap length (recorded-unique _ _ _ _ _ (r .1) k .0) ∙ l)
+    let r = handed s at end (h .next) fs (h .took) in
+    h .other (sym (bodies-length fs (r .contents) (r .bodies)) ∙ ap length (recorded-unique _ _ _ _ _ (r .recorded) k .0) ∙ l)
 
 pub reads-push : (s mid rest : List ℕ) (rs : List (List (List ℕ))) (cs : List (List ℕ)) → ReadsTo s rs mid → (mid ≡ [] → ⊥) → Recorded mid cs rest → ReadsTo s (rs ++ cs ∷ []) rest
 reads-push s mid rest _ cs none ne h = next ne h none
@@ -134,7 +143,10 @@ refused-count s at old new x h n =
     record { absent = miscounted-none s (length old) at (x .end) (h .fields) m; fields = h .fields; cause = m; laid = h .laid }
 
 -- the slots hold the record's fields
-pub handed-out : (s : List ℕ) (at : ℕ) (old new : List Field) (x : Extent) → ReadRecord s at old new x → x .count ≡ length new → (end : ℕ) × TookRecord s at new end (x .next)
+pub handed-out : (s : List ℕ) (at : ℕ) (old new : List Field) (x : Extent) → ReadRecord s at old new x → x .count ≡ length new → Handed s at new (x .next)
 handed-out s at old new x h e =
     let l : length (h .fields) ≡ length old = sym (h .counted) ∙ e ∙ ap length (h .laid) ∙ overlay-length (h .fields) old in
-    (x .end, subst (λ fs. TookRecord s at fs (x .end) (x .next)) (sym (h .laid ∙ overlay-all (h .fields) old l)) (h .took))
+    handed s at (x .end) (x .next) new (subst (λ fs. TookRecord s at fs (x .end) (x .next)) (sym (h .laid ∙ overlay-all (h .fields) old l)) (h .took))
+
+pub skipped : (s : List ℕ) (at : ℕ) (old new : List Field) (x : Extent) → ReadRecord s at old new x → Skipped s at (x .count) (x .next)
+skipped s at old new x h = record { fields = h .fields; handed = handed s at (x .end) (x .next) (h .fields) (h .took); count = h .counted }

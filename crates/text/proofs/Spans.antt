@@ -12,12 +12,11 @@ use Rattle.std.proofs.shelf.Tests.{cases-eq, cases-lt}
 use Rattle.text.specs.declared.field.Mark.{Mark}
 use Rattle.text.specs.declared.field.Mark.the-variants.{Comma, Line, End}
 use Rattle.text.specs.declared.field.TextFault.{TextFault}
-use Rattle.text.specs.declared.field.TextFault.the-variants.{BareLineEnd, StrayQuote, OpenQuote, AfterQuote}
+use Rattle.text.specs.declared.field.TextFault.the-variants.{StrayQuote, AfterQuote}
 use Rattle.text.specs.declared.field.Span.{Span}
-use Rattle.text.specs.Grammar.{Plain, AllPlain, escape, body, written, Proper, sign, Ends, Fielded, NoField}
-use Rattle.text.specs.FirstLine.{LineAt}
-use Rattle.text.specs.Scans.{NoQuote, PlainTo, EscapedTo, Unclosed, Closes, Opens, Stops, Upto, past, Spans, MarkTo}
-use Rattle.text.specs.Faults.{Bare, Wrong}
+use Rattle.text.specs.Grammar.{Plain, AllPlain, escape, written, sign, Ends, Fielded, NoField}
+use Rattle.text.specs.Scans.{NoQuote, PlainTo, Unclosed, Closes, Upto, past, Spans, MarkTo}
+use Rattle.text.specs.Faults.{Wrong}
 use Rattle.text.specs.Faults.Wrong.{bare, stray, unclosed, extra}
 use Rattle.text.proofs.Contents.{Stopped, plain-unique, escape-unique, escape-open}
 use Rattle.text.proofs.Marks.{NoMark, no-mark}

@@ -9,13 +9,13 @@ use lib.ListN.{length, drop, length-drop}
 use Rattle.std.proofs.shelf.Lists.{drop-all, length-push}
 use Rattle.std.proofs.shelf.Tests.{eqb-false}
 use Rattle.text.specs.declared.field.TextFault.{TextFault}
-use Rattle.text.specs.Grammar.{ReadsTo, Reading}
+use Rattle.text.specs.Grammar.{ReadsTo}
 use Rattle.text.specs.Grammar.ReadsTo.{none}
 use Rattle.text.specs.Taken.{Skipped}
 use Rattle.text.specs.Faults.{RecordRefused}
 use Rattle.text.specs.Walks.{Counted, FirstWrong}
 use Rattle.text.proofs.Records.{record-later, took-within}
-use Rattle.text.proofs.Once.{took-recorded, reads-push, reads-stuck}
+use Rattle.text.proofs.Once.{reads-push, reads-stuck}
 
 -- the text is read up to `at`, count records
 pub record Walked (text : List ℕ) (at count : ℕ) : Type 0 where
@@ -36,17 +36,17 @@ some-left : (s : List ℕ) (at : ℕ) → at < length s → drop at s ≡ [] →
 some-left s at l e = let a = length-drop at s in let z = ap length e in omega arith
 
 pub skipped-later : (s : List ℕ) (at n next : ℕ) → at < length s → Skipped s at n next → at < next
-skipped-later s at n next l h = record-later s at (h .end) next (h .fields) l (h .took)
+skipped-later s at n next l h = record-later s at (h .handed .end) next (h .fields) l (h .handed .took)
 
 pub walked-more : (text : List ℕ) (at count n next : ℕ) → at < length text → Walked text at count → Skipped text at n next → Walked text next (count + 1)
 walked-more text at count n next l w h =
-    let r = took-recorded text at (h .end) next (h .fields) (h .took) in
+    let r = h .handed in
     record {
-      before = w .before ++ r .0 ∷ [];
-      reads = reads-push _ _ _ _ _ (w .reads) (some-left text at l) (r .1);
-      counted = length-push (w .before) (r .0) ∙ ap (λ k. k + 1) (w .counted);
+      before = w .before ++ r .contents ∷ [];
+      reads = reads-push _ _ _ _ _ (w .reads) (some-left text at l) (r .recorded);
+      counted = length-push (w .before) (r .contents) ∙ ap (λ k. k + 1) (w .counted);
       few = omega (arith, w .few, skipped-later text at n next l h);
-      within = took-within text at (h .end) next (h .fields) (h .took);
+      within = took-within text at (r .end) next (h .fields) (r .took);
     }
 
 pub walked-all : (text : List ℕ) (at count : ℕ) → length text ≤ at → Walked text at count → Counted text count

@@ -3,13 +3,13 @@ use mathlib.Core.Path.{_≡_}
 use mathlib.Core.Bool.{Bool, true, false}
 use mathlib.Core.Logic.{_⊎_}
 use mathlib.Core.List.{List, [], _∷_}
-use Prim.Native.Nat.{ℕ, _+_, _<_, _≤_}
+use Prim.Native.Nat.{ℕ, _+_, _<_}
 use lib.ListN.{length, drop, getD}
 use Rattle.text.specs.declared.field.Field.{Field}
 use Rattle.text.specs.declared.field.TextFault.{TextFault}
 use Rattle.text.specs.declared.field.TextFault.the-variants.{BareLineEnd, StrayQuote, OpenQuote, AfterQuote, FieldCount}
 use Rattle.text.specs.declared.field.Mark.the-variants.{Comma}
-use Rattle.text.specs.Grammar.{Plain, escape, Fielded, NoField, NoRecord, NoRecordOf}
+use Rattle.text.specs.Grammar.{Plain, NoField, NoRecord, NoRecordOf}
 use Rattle.text.specs.FirstLine.{LineAt}
 use Rattle.text.specs.Scans.{Unclosed, Upto}
 use Rattle.text.specs.Taken.{Took, TookRecord, overlay}

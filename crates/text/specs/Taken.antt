@@ -1,11 +1,11 @@
 -- What the reader hands out: fields with their places, and records of fields.
 use mathlib.Core.Path.{_≡_}
 use mathlib.Core.List.{List, [], _∷_}
-use Prim.Native.Nat.{ℕ, _+_, _-_, _≤_}
+use Prim.Native.Nat.{ℕ, _+_, _-_}
 use lib.ListN.{length, take, drop}
 use Rattle.text.specs.declared.field.Field.{Field}
 use Rattle.text.specs.declared.field.Mark.the-variants.{Comma}
-use Rattle.text.specs.Grammar.{Fielded, body}
+use Rattle.text.specs.Grammar.{Fielded, body, Recorded}
 use Rattle.text.specs.Scans.{past, MarkTo}
 
 -- the field f begins at `at`, and what follows its mark at next
@@ -29,9 +29,23 @@ overlay [] slots = slots
 overlay (f ∷ fs) [] = []
 overlay (f ∷ fs) (g ∷ slots) = f ∷ overlay fs slots
 
+-- these fields hold these contents, one after the other
+abbrev pub Bodies : List Field → List (List ℕ) → Type 0
+Bodies [] [] = Unit {0}
+Bodies [] (c ∷ cs) = ⊥
+Bodies (f ∷ fs) [] = ⊥
+Bodies (f ∷ fs) (c ∷ cs) = (f .bytes .now ≡ body (f .quoted) c) × Bodies fs cs
+
+-- the record that begins at `at` is handed out as these fields, and what follows it stands at next
+pub record Handed (text : List ℕ) (at : ℕ) (fields : List Field) (next : ℕ) : Type 0 where
+  pub end : ℕ
+  pub took : TookRecord text at fields end next
+  pub contents : List (List ℕ)
+  pub recorded : Recorded (drop at text) contents (drop next text)
+  pub bodies : Bodies fields contents
+
 -- the record that begins at `at` has n fields, and what follows it stands at next
 pub record Skipped (text : List ℕ) (at n next : ℕ) : Type 0 where
   pub fields : List Field
-  pub end : ℕ
-  pub took : TookRecord text at fields end next
+  pub handed : Handed text at fields next
   pub count : n ≡ length fields

@@ -1,8 +1,9 @@
 // Numbers in fields.
-ghost use mathlib.Core.Path.{_≡_};
-ghost use Prim.Native.Nat.{ℕ, _+_, _≤_, _<_, _^_};
+ghost use Prim.Native.Nat.{_<_, _^_};
 ghost use Rattle.std.specs.Options.{Cases as BySome};
+ghost use Rattle.text.specs.Laws.{SameNumber};
 ghost use Rattle.text.specs.Numbers.{Number, NoNumber, counted};
+use crate::field::Field;
 
 // The most digits that a number may have, whatever the limit: more do not fit in 64 bits.
 const MOST_DIGITS: usize = 19;
@@ -27,4 +28,15 @@ pub fn number(bytes: &[u8], limit: usize) -> Option<u64>
         n = n * 10 + u64::from(*b - b'0');
     }
     Some(n)
+}
+
+impl<'a> Field<'a> {
+    // The number that the field writes, quoted or not, with at most `limit` digits.
+    pub fn number(&self, limit: usize) -> Option<u64>
+        ensures value { λ r. ⌜ BySome r (NoNumber (counted limit) (now (now (self .entry) .bytes))) (λ n. Number (counted limit) (now (now (self .entry) .bytes)) n) ⌝ }
+        ensures bound { λ r. ⌜ BySome r (Unit {0}) (λ n. n < 10 ^ counted limit) ⌝ }
+        ensures content { λ _. ⌜ SameNumber ⌝ }
+    {
+        number(self.bytes, limit)
+    }
 }

@@ -1,11 +1,12 @@
 // The reader: it hands out the fields and records of a text with their places.
 ghost use mathlib.Core.Path.{_≡_};
-ghost use Prim.Native.Nat.{ℕ, _≤_, min};
+ghost use Prim.Native.Nat.{_≤_, min};
 ghost use denote.Ref.{now};
 ghost use lib.Dec.{eqb};
 ghost use lib.ListN.{length};
 ghost use Rattle.std.specs.Results.{Cases as ByOk};
-ghost use Rattle.text.specs.Taken.{Took, TookRecord, Skipped};
+ghost use Rattle.text.specs.Taken.{Took, Handed, Skipped};
+ghost use Rattle.text.specs.Laws.{OneField, OneFault, OneCause};
 ghost use Rattle.text.specs.Faults.{FieldRefused, RecordRefused, ColumnsRefused};
 use crate::field::Field;
 use crate::field::TextFault;
@@ -41,13 +42,6 @@ impl<'a> Reader<'a> {
         }
     }
 
-    // The place where the reader stands.
-    pub fn place(&self) -> usize
-        ensures { λ r. ⌜ r ≡ now (self .entry) .at ⌝ }
-    {
-        self.at
-    }
-
     // Whether no bytes are left, and so no further record.
     pub fn at_end(&self) -> bool
         ensures { λ r. ⌜ r ≡ eqb (now (self .entry) .at) (length (now (now (self .entry) .text))) ⌝ }
@@ -56,7 +50,7 @@ impl<'a> Reader<'a> {
     }
 
     // Hands out the next field, or refuses and stays where it stands.
-    pub fn field(&mut self) -> Result<Field<'a>, TextFault>
+    pub fn next_field(&mut self) -> Result<Field<'a>, TextFault>
         ensures same { λ _. ⌜ now (self .exit) .text ≡ now (self .entry) .text ⌝ }
         ensures field { λ r. ⌜ ByOk r (λ f. Took (now (now (self .entry) .text)) (now (self .entry) .at) f (now (self .exit) .at)) (λ e. FieldRefused (now (now (self .entry) .text)) (now (self .entry) .at) e × (now (self .exit) .at ≡ now (self .entry) .at)) ⌝ }
     {
@@ -67,9 +61,10 @@ impl<'a> Reader<'a> {
 
     // Hands out the next record's fields, as many as there are slots, or refuses and stays where it stands; the slots then
     // hold the fields before the fault.
-    pub fn record(&mut self, slots: &mut [Field<'a>]) -> Result<(), TextFault>
+    pub fn next_record(&mut self, slots: &mut [Field<'a>]) -> Result<(), TextFault>
         ensures same { λ _. ⌜ now (self .exit) .text ≡ now (self .entry) .text ⌝ }
-        ensures fields { λ r. ⌜ ByOk r (λ _. (end : ℕ) × TookRecord (now (now (self .entry) .text)) (now (self .entry) .at) (now (slots .exit)) end (now (self .exit) .at)) (λ e. ColumnsRefused (now (now (self .entry) .text)) (now (self .entry) .at) (now (slots .entry)) (now (slots .exit)) e × (now (self .exit) .at ≡ now (self .entry) .at)) ⌝ }
+        ensures fields { λ r. ⌜ ByOk r (λ _. Handed (now (now (self .entry) .text)) (now (self .entry) .at) (now (slots .exit)) (now (self .exit) .at)) (λ e. ColumnsRefused (now (now (self .entry) .text)) (now (self .entry) .at) (now (slots .entry)) (now (slots .exit)) e × (now (self .exit) .at ≡ now (self .entry) .at)) ⌝ }
+        ensures once { λ _. ⌜ OneField × OneFault × OneCause ⌝ }
     {
         let extent = record_at(self.text, self.at, slots)?;
         if extent.count != slots.len() {

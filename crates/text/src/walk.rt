@@ -1,6 +1,4 @@
 // A walk over a text without header.
-ghost use mathlib.Core.Path.{_≡_};
-ghost use Prim.Native.Nat.{ℕ};
 ghost use Rattle.std.specs.Results.{Cases as ByOk};
 ghost use Rattle.text.specs.Walks.{Counted, FirstWrong};
 ghost use Rattle.text.specs.Laws.{Unique};

@@ -7,23 +7,23 @@ use Prim.Native.Nat.{ℕ, _+_, _^_, _≤_, _<_}
 use native.Mathlib.Omega.{arith}
 use native.Mathlib.Nat.{pow-le-pow-right}
 use borrow.Author.Needs.{needs}
-use lib.ListN.{length, getD, take, drop, length-append}
+use lib.ListN.{length, drop, length-append}
 use Rattle.std.specs.Joined.{joined}
 use Rattle.std.specs.Written.{decimal}
 use Rattle.std.proofs.shelf.Decimals.{digits-decimal, value-decimal, length-decimal-le, decimal-some, first-decimal, decimal-digit}
 use Rattle.std.proofs.shelf.Lists.{take-at, drop-at, getD-at, getD-append-left, getD-append-add}
 use Rattle.std.proofs.shelf.Numerals.{Numerals, numerals-by-fold}
 use Rattle.std.proofs.shelf.Tests.{cases-eq, cases-lt}
-use Rattle.text.specs.declared.field.Mark.the-variants.{Comma, Line}
-use Rattle.text.specs.Grammar.{AllPlain, Fielded, Recorded, ReadsTo, Reading}
+use Rattle.text.specs.declared.field.Mark.the-variants.{Line}
+use Rattle.text.specs.Grammar.{AllPlain, Recorded, Reading}
 use Rattle.text.specs.Grammar.Recorded.{last, more}
 use Rattle.text.specs.Grammar.ReadsTo.{none, next}
-use Rattle.text.specs.Numbers.{AllDigits, valueAfter, Numeral, Number}
-use Rattle.text.specs.FirstLine.{LineAt, NoLineBefore, FirstLine, Headed}
+use Rattle.text.specs.Numbers.{AllDigits, valueAfter, Number}
+use Rattle.text.specs.FirstLine.{LineAt, Headed}
 use Rattle.text.proofs.Lines.{headed-unique}
 use Rattle.text.proofs.Once.{reading-unique}
 use Rattle.text_out.specs.Written.{newline, further, line, headerLine, table}
-use Rattle.text_out.specs.Tables.{Writes, WritesAll, Table, ReadsBack, OneLine, Small, Writable, Back, RoundTrip}
+use Rattle.text_out.specs.Tables.{Writes, WritesAll, Table, OneLine, Small, Writable, RoundTrip}
 
 own : Numerals AllDigits (valueAfter 0)
 own = numerals-by-fold _ (search needs) valueAfter (search needs)

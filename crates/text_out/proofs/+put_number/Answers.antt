@@ -1,6 +1,5 @@
-use mathlib.Core.Path.{refl, sym, ap, _∙_}
+use mathlib.Core.Path.{sym}
 use native.Mathlib.Omega.{arith}
-use borrow.Author.Needs.{needs}
 use Rattle.std.proofs.shelf.Decimals.{decimal-step}
 use Rattle.text_out.proofs.Stored.{put-then, put-is, digit-one, width-one, width-more}
 use Rattle.text_out.proofs.+put_number.Needs as need

@@ -1,4 +1,4 @@
-use mathlib.Core.Path.{refl, sym, ap, _∙_}
+use mathlib.Core.Path.{sym}
 use native.Mathlib.Omega.{arith}
 use Rattle.text_out.proofs.Stored.{width-one, width-more, width-le}
 use Rattle.text_out.proofs.+width.Needs as need

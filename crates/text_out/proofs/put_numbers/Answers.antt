@@ -1,10 +1,10 @@
-use mathlib.Core.Path.{sym, ap, _∙_}
+use mathlib.Core.Path.{sym, ap}
 use native.Mathlib.Omega.{arith}
 use lib.ListN.{length}
 use Rattle.std.specs.Joined.{joined}
 use Rattle.std.proofs.shelf.Lists.{take-all}
 use Rattle.text_out.specs.Written.{further, line}
-use Rattle.text_out.proofs.Stored.{put-none, put-is, put-then, line-put, further-put, line-length, line-more-le}
+use Rattle.text_out.proofs.Stored.{put-none, put-is, line-put, further-put, line-length, line-more-le}
 use Rattle.text_out.proofs.put_numbers.Needs as need
 
 pub put-number-end-requires : need.put-number-end-requires

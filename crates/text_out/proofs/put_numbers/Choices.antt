@@ -1,7 +1,5 @@
-use mathlib.Core.List.{_++_}
 use lib.ListN.{take}
 use Rattle.std.specs.Joined.{joined}
-use Rattle.std.specs.Written.{decimal}
 use Rattle.text_out.specs.Stores.{Put}
 use Rattle.text_out.specs.Written.{further}
 use Rattle.text_out.proofs.put_numbers.Given as given

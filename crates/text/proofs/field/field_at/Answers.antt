@@ -2,8 +2,6 @@ use mathlib.Core.Path.{refl, sym, ap, subst, _∙_}
 use mathlib.Core.Logic.{inl, inr, ⊎-elim}
 use Prim.Native.Nat.{_+_}
 use lib.ListN.{length}
-use native.Mathlib.Omega.{arith}
-use borrow.Author.Needs.{needs}
 use Rattle.text.specs.Scans.{MarkTo}
 use Rattle.text.specs.Faults.Wrong.{bare}
 use Rattle.text.proofs.Spans.{part-is, part-length, upto-fielded, span-upto, span-within, fault-quoted, fault-plain}

@@ -1,6 +1,3 @@
-use mathlib.Core.Path.{_≡_, sym, ap, subst, _∙_}
-use lib.ListN.{take}
-use borrow.Author.Needs.{needs}
 use Rattle.std.proofs.shelf.Equals.{matches-decides}
 use Rattle.std.proofs.shelf.Tests.{both-ways}
 use Rattle.text.proofs.Lines.{not-headed}

@@ -1,9 +1,9 @@
-use mathlib.Core.Path.{sym, ap, subst, _∙_}
+use mathlib.Core.Path.{ap, subst, _∙_}
 use mathlib.Core.Logic.{⊎-elim}
 use native.Mathlib.Omega.{arith}
 use borrow.Author.Needs.{needs}
 use Rattle.std.proofs.shelf.Lists.{take-all}
-use Rattle.text.specs.Numbers.{Digit, AllDigits, valueAfter}
+use Rattle.text.specs.Numbers.{AllDigits, valueAfter}
 use Rattle.text.proofs.Digits.{digits-at, digits-more, value-more, power-more, power-up, room}
 use Rattle.text.proofs.number.number.Needs as need
 use Rattle.text.proofs.number.number.Needs.{then-b-lt48·by·then-b-lt48, then-b-lt48·by·else-b-lt48·then-b-gt57}

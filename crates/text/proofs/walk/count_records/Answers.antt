@@ -17,7 +17,7 @@ loop-reader-holds c =
 pub returns-in-Err : need.returns-in-Err
 returns-in-Err c =
     let i = c .loop-reader .inv in
-    let l = bytes-left _ _ _ (i .0) (c .loop-reader-test .ensures tt) (i .1 .within) in
+    let l = bytes-left (c .loop-reader .reader .text .now) (c .args .text .now) (c .loop-reader .reader .at) (i .0) (c .loop-reader-test .ensures tt) (i .1 .within) in
     record {
       count = walked-wrong (c .args .text .now) (c .loop-reader .reader .at) (c .loop-reader .count) (c .in-Err .fault) l (i .1) (subst (λ t. RecordRefused t (c .loop-reader .reader .at) (c .in-Err .fault)) (i .0) (c .in-Err .ensures tt .count .0));
       unique = reading-unique;
@@ -27,15 +27,15 @@ pub loop-reader-less : need.loop-reader-less
 loop-reader-less c =
     let i = c .loop-reader .inv in
     let h = c .in-rest .ensures tt in
-    let l = bytes-left _ _ _ (i .0) (c .loop-reader-test .ensures tt) (i .1 .within) in
+    let l = bytes-left (c .loop-reader .reader .text .now) (c .args .text .now) (c .loop-reader .reader .at) (i .0) (c .loop-reader-test .ensures tt) (i .1 .within) in
     let w : c .loop-reader .reader .at < length (c .loop-reader .reader .text .now) = omega (arith, l, ap length (i .0)) in
-    omega (arith, w, skipped-later _ _ _ _ w (h .count), ap (λ r. length (r .now)) (h .same))
+    omega (arith, w, skipped-later (c .loop-reader .reader .text .now) (c .loop-reader .reader .at) (c .in-rest .field-0) (c .skip-record .last .self .at) w (h .count), ap (λ r. length (r .now)) (h .same))
 
 pub loop-reader-again : need.loop-reader-again
 loop-reader-again c =
     let i = c .loop-reader .inv in
     let h = c .in-rest .ensures tt in
-    let l = bytes-left _ _ _ (i .0) (c .loop-reader-test .ensures tt) (i .1 .within) in (
+    let l = bytes-left (c .loop-reader .reader .text .now) (c .args .text .now) (c .loop-reader .reader .at) (i .0) (c .loop-reader-test .ensures tt) (i .1 .within) in (
       ap (λ r. r .now) (h .same) ∙ i .0,
       walked-more (c .args .text .now) (c .loop-reader .reader .at) (c .loop-reader .count) (c .in-rest .field-0) (c .skip-record .last .self .at) l (i .1) (subst (λ t. Skipped t (c .loop-reader .reader .at) (c .in-rest .field-0) (c .skip-record .last .self .at)) (i .0) (h .count)),
     )

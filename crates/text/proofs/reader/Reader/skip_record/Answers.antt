@@ -1,7 +1,7 @@
 use mathlib.Core.Path.{refl}
 use Rattle.std.proofs.shelf.Results.{err-from-errBy}
 use Rattle.text.proofs.Records.{took-within}
-use Rattle.text.proofs.Once.{broken-none}
+use Rattle.text.proofs.Once.{broken-none, skipped}
 use Rattle.text.proofs.reader.Reader.skip_record.Needs as need
 
 pub returns-in-Break-extent : need.returns-in-Break-extent
@@ -12,3 +12,6 @@ returns-in-Break-extent c =
 
 pub ghost-self : need.ghost-self
 ghost-self c = (took-within _ _ _ _ _ (c .in-Continue-extent .ensures tt .took), tt)
+
+pub returns : need.returns
+returns c = record { same = refl; count = skipped _ _ _ _ _ (c .in-Continue-extent .ensures tt) }

@@ -1,7 +1,7 @@
 use mathlib.Core.Path.{refl}
 use Rattle.std.proofs.shelf.Results.{err-from-errBy}
 use Rattle.text.proofs.Spans.{wrong-none}
-use Rattle.text.proofs.reader.Reader.field.Needs as need
+use Rattle.text.proofs.reader.Reader.next_field.Needs as need
 
 pub returns-in-Break-field : need.returns-in-Break-field
 returns-in-Break-field c =
