@@ -1,0 +1,9 @@
+pub mod Contents
+pub mod Marks
+pub mod Spans
+pub mod Records
+pub mod Once
+pub mod Faulted
+pub mod Walked
+pub mod Digits
+pub mod Lines

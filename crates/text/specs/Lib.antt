@@ -1,0 +1,9 @@
+pub mod Grammar
+pub mod Numbers
+pub mod FirstLine
+pub mod Scans
+pub mod Taken
+pub mod Faults
+pub mod Extents
+pub mod Laws
+pub mod Walks
