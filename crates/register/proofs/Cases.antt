@@ -11,7 +11,7 @@ use Rattle.std.specs.declared.option.Option.the-variants.{Some, None}
 use Rattle.std.proofs.shelf.Tests.{cases-lt, cases-eq, lt-ltb, le-ltb, le-leb, lt-leb, eq-eqb, ne-eqb, and-from, and-left, and-right}
 use Rattle.terms.specs.Sets.{bit}
 use Rattle.terms.specs.Refusals.{Refusal, refusal, when, firstOf}
-use Rattle.register.specs.Pairs.{row, Has, has, pairs, members, withPair, lessPair}
+use Rattle.register.specs.Pairs.{row, Has, has, pairs, having, members, withPair, lessPair}
 use Rattle.register.specs.Model.{Model, usersOf, seatsOf, withRows, inside, holds}
 use Rattle.register.specs.Changes.{newPairRows, unless, addRows, added, removed}
 
@@ -24,6 +24,16 @@ pub record Adds (m : Model) (u r : ℕ) (refused : Option Refusal) (after : Mode
 pub record Removes (m : Model) (u r : ℕ) (said : Bool) (after : Model) : Type 0 where
   pub answer : holds m u r ≡ said
   pub model : removed m u r ≡ after
+
+-- ---- members and seats of a role
+pub members-low : (t : List ℕ) (r : ℕ) → r < 64 → members t r ≡ having r t
+members-low t r h = ap (λ b. cond b (having r t) 0) (lt-ltb r 64 h)
+
+pub members-high : (t : List ℕ) (r : ℕ) → 64 ≤ r → members t r ≡ 0
+members-high t r h = ap (λ b. cond b (having r t) 0) (le-ltb r 64 h)
+
+pub seats-low : (m : Model) (r : ℕ) → r < 64 → seatsOf m r ≡ m .seats r
+seats-low m r h = ap (λ b. cond b (m .seats r) 0) (lt-ltb r 64 h)
 
 module _ (m : Model) (u r : ℕ) where
   -- ---- the pair is held, or not
@@ -42,6 +52,9 @@ module _ (m : Model) (u r : ℕ) where
   not-inside : (usersOf m ≤ u) ⊎ (64 ≤ r) → inside m u r ≡ false
   not-inside (inl h) = outside-user h
   not-inside (inr h) = outside-role h
+
+  pub held-outside : (usersOf m ≤ u) ⊎ (64 ≤ r) → holds m u r ≡ false
+  held-outside h = and-left (inside m u r) _ (not-inside h)
 
   -- ---- add
   by-rows : holds m u r ≡ false → (o : Option Refusal) → newPairRows m u r ≡ o → Adds m u r o (unless o m (withRows m (withPair (m .rows) u r)))
@@ -63,7 +76,7 @@ module _ (m : Model) (u r : ℕ) where
   }
 
   pub add-outside : (usersOf m ≤ u) ⊎ (64 ≤ r) → Adds m u r (Some (refusal 51 [])) m
-  add-outside h = by-rows (and-left (inside m u r) _ (not-inside h)) (Some (refusal 51 [])) (rows-at false _ _ (not-inside h) refl refl)
+  add-outside h = by-rows (held-outside h) (Some (refusal 51 [])) (rows-at false _ _ (not-inside h) refl refl)
 
   module _ (low : u < usersOf m) (small : r < 64) (free : Has (m .rows) u r → ⊥) where
     within : inside m u r ≡ true

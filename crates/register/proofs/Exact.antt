@@ -22,7 +22,7 @@ use Rattle.register.specs.Changes.{addRows, added, removed, cleared}
 use Rattle.register.specs.Fits.{Fits, Part, Lasts, AddsExactly, RemovesExactly, ClearsAll, Laws}
 use Rattle.register.proofs.Tables.{row-past, each-row, none-row, none-has, none-pairs, none-members, part-pairs, part-members}
 use Rattle.register.proofs.Tables as t
-use Rattle.register.proofs.Cases.{Way, outside, held, no-seat, no-place, new, way}
+use Rattle.register.proofs.Cases.{Way, outside, held, no-seat, no-place, new, way, members-low, members-high}
 use Rattle.register.proofs.Cases as c
 
 -- a pair of T has its user below U and a role of at most 63
@@ -129,12 +129,6 @@ clears m s = record {
 }
 
 -- ---- fitting
-members-low : (xs : List ℕ) (r : ℕ) → r < 64 → members xs r ≡ having r xs
-members-low xs r h = ap (λ b. cond b (having r xs) 0) (lt-ltb r 64 h)
-
-members-high : (xs : List ℕ) (r : ℕ) → 64 ≤ r → members xs r ≡ 0
-members-high xs r h = ap (λ b. cond b (having r xs) 0) (le-ltb r 64 h)
-
 members-le : (xs ys : List ℕ) (r : ℕ) → (r < 64 → having r xs ≤ having r ys) → members xs r ≤ members ys r
 members-le xs ys r h = elim (cases-lt r 64) [
   | inl l ↦ omega (arith, h l, members-low xs r l, members-low ys r l)

@@ -24,8 +24,8 @@ pub record Passes (own : List ℕ) (m : Model) (u r : ℕ) : Type 0 where
   pub model : seated own (added m u r) ≡ added (seated own m) u r
 
 module _ (own : List ℕ) (m : Model) (u r : ℕ) where
-  seats-low : r < 64 → seatsOf (seated own m) r ≡ min (ownSeats own r) (seatsOf m r)
-  seats-low h = ap (λ b. cond b (min (ownSeats own r) (m .seats r)) 0) (lt-ltb r 64 h) ∙ sym (ap (λ b. min (ownSeats own r) (cond b (m .seats r) 0)) (lt-ltb r 64 h))
+  seats-are : r < 64 → seatsOf (seated own m) r ≡ min (ownSeats own r) (seatsOf m r)
+  seats-are h = c.seats-low (seated own m) r h ∙ ap (min (ownSeats own r)) (sym (c.seats-low m r h))
 
   -- ---- the layer refuses
   pub turned-away : turnsAway own m u r ≡ true → Adds (seated own m) u r (Some (refusal 52 (r ∷ []))) (seated own m)
@@ -35,7 +35,7 @@ module _ (own : List ℕ) (m : Model) (u r : ℕ) where
       let i = and-parts (ltb u (usersOf m)) (ltb r 64) (b .0) in
       let small = ltb-true r 64 (i .1) in
       c.add-no-seat (seated own m) u r (ltb-true u (usersOf m) (i .0)) small (eqb-false (bit (row (m .rows) u) r) 1 (not-true (has (m .rows) u r) (b .1)))
-      (omega (arith, seats-low small, leb-true (ownSeats own r) (members (m .rows) r) (a .1)))
+      (omega (arith, seats-are small, leb-true (ownSeats own r) (members (m .rows) r) (a .1)))
 
   -- ---- the register below decides
   together : (o : Option Refusal) (after : Model) → Adds m u r o after → Adds (seated own m) u r o (seated own after) → Passes own m u r
@@ -52,11 +52,11 @@ module _ (own : List ℕ) (m : Model) (u r : ℕ) where
   by-way e (outside h) = together (Some (refusal 51 [])) m (c.add-outside m u r h) (c.add-outside (seated own m) u r h)
   by-way e (held low small h) = together None m (c.add-held m u r (c.held-true m u r low small h)) (c.add-held (seated own m) u r (c.held-true m u r low small h))
   by-way e (no-seat low small free s) =
-      together (Some (refusal 52 (r ∷ []))) m (c.add-no-seat m u r low small free s) (c.add-no-seat (seated own m) u r low small free (omega (arith, seats-low small)))
+      together (Some (refusal 52 (r ∷ []))) m (c.add-no-seat m u r low small free s) (c.add-no-seat (seated own m) u r low small free (omega (arith, seats-are small)))
   by-way e (no-place low small free s p) =
-      together (Some (refusal 53 [])) m (c.add-no-place m u r low small free s p) (c.add-no-place (seated own m) u r low small free (omega (arith, seats-low small, own-free low small free e)) p)
+      together (Some (refusal 53 [])) m (c.add-no-place m u r low small free s p) (c.add-no-place (seated own m) u r low small free (omega (arith, seats-are small, own-free low small free e)) p)
   by-way e (new low small free s p) =
-      together None _ (c.add-new m u r low small free s p) (c.add-new (seated own m) u r low small free (omega (arith, seats-low small, own-free low small free e)) p)
+      together None _ (c.add-new m u r low small free s p) (c.add-new (seated own m) u r low small free (omega (arith, seats-are small, own-free low small free e)) p)
 
   pub passed-on : turnsAway own m u r ≡ false → Passes own m u r
   passed-on e = by-way e (way m u r)

@@ -1,0 +1,34 @@
+-- Counting row after row. Assumes nothing.
+use mathlib.Core.Path.{_≡_, refl, sym, ap, _∙_}
+use mathlib.Core.List.{List}
+use mathlib.Core.Logic.{inl, inr}
+use Prim.Native.Nat.{ℕ, _+_, _*_, _/_, _^_, _<_, _≤_}
+use native.Mathlib.Omega.{arith}
+use lib.Bits.{bitAnd}
+use lib.Count.{ones, ones-le}
+use lib.ListN.{length, getD, take}
+use Rattle.std.proofs.shelf.Bits.{and-mask, pow-pos}
+use Rattle.std.proofs.shelf.Lists.{getD-past, take-all}
+use Rattle.std.proofs.shelf.Sums.{sumBy-more}
+use Rattle.std.proofs.shelf.Tests.{cases-lt}
+use Rattle.terms.specs.Sets.{bit}
+use Rattle.terms.proofs.Bits.{bit-two}
+use Rattle.register.specs.Pairs.{row, pairs, having}
+
+pub pairs-more : (t : List ℕ) (i n : ℕ) → i < length t → n ≡ pairs (take i t) → n + ones (getD t i 0) ≡ pairs (take (i + 1) t)
+pairs-more t i n h e = ap (λ x. x + ones (getD t i 0)) e ∙ sym (sumBy-more ones t i 0 h)
+
+-- the bit as the code reads it
+pub bit-read : (w r : ℕ) → bitAnd (w / 2 ^ r) 1 ≡ bit w r
+unfolding bit
+bit-read w r = and-mask (w / 2 ^ r) 1
+
+pub members-more : (t : List ℕ) (i r n : ℕ) → i < length t → n ≡ having r (take i t) → n + bitAnd (getD t i 0 / 2 ^ r) 1 ≡ having r (take (i + 1) t)
+members-more t i r n h e = ap (λ x. x + bitAnd (getD t i 0 / 2 ^ r) 1) e ∙ ap (λ x. having r (take i t) + x) (bit-read (getD t i 0) r) ∙ sym (sumBy-more (λ w. bit w r) t i 0 h)
+
+pub bit-least : (w r : ℕ) → bitAnd (w / 2 ^ r) 1 ≤ 1
+bit-least w r = omega (arith, bit-read w r, bit-two w r)
+
+-- where every row in the list fits, every row does
+pub all-wide : (t : List ℕ) → ((k : ℕ) → k < length t → getD t k 0 < 2 ^ 64) → (u : ℕ) → row t u < 2 ^ 64
+all-wide t h u = elim (cases-lt u (length t)) [ inl l ↦ h u l | inr g ↦ rw (getD-past t u 0 g) (pow-pos 64) ]
