@@ -1,4 +1,4 @@
--- The counts of rows, and how a pair more, a pair less and emptying keep them. Assumes nothing.
+-- The counts of rows, and how a pair more, a pair less and a row less keep them. Assumes nothing.
 use mathlib.Core.Path.{_≡_, refl, sym, ap, subst, _∙_}
 use mathlib.Core.Bool.{cond}
 use mathlib.Core.List.{List}
@@ -6,13 +6,18 @@ use mathlib.Core.Logic.{inl, inr}
 use Prim.Native.Nat.{ℕ, _+_, _-_, _*_, _%_, _^_, _<_, _≤_}
 use native.Mathlib.Omega.{arith}
 use lib.Bits.{bitOr, bitXor, or-lt, xor-lt}
+use lib.Count.{ones}
 use lib.Dec.{ltb}
-use lib.ListN.{length, getD, set, replicate}
+use lib.ListN.{length, getD, set}
 use Rattle.std.proofs.shelf.Bits.{pow-pos, pow-below, one-shl}
-use Rattle.std.proofs.shelf.Lists.{getD-set-same, getD-set-other, getD-replicate, length-set, length-replicate}
+use Rattle.std.proofs.shelf.Lists.{getD-set-same, getD-set-other, length-set}
+use Rattle.std.proofs.shelf.Sums.{sumBy-set, getD-le-sumBy}
 use Rattle.std.proofs.shelf.Tests.{cases-eq, cond-true, lt-ltb}
-use Rattle.register.specs.Pairs.{row, Has, pairs, having, withPair, lessPair, emptied}
-use Rattle.register.proofs.Tables.{each-row, none-row, none-pairs, none-members}
+use Rattle.terms.specs.Sets.{bit}
+use Rattle.terms.proofs.Bits.{bit-zero}
+use Rattle.terms.proofs.Sizes.{ones-none}
+use Rattle.register.specs.Pairs.{row, Has, pairs, having, withPair, lessPair}
+use Rattle.register.proofs.Tables.{each-row}
 use Rattle.register.proofs.Tables as t
 
 -- ---- what the code writes
@@ -75,16 +80,26 @@ module _ (rows ms : List ℕ) (n u r : ℕ) (c : Counts rows ms n) (long : lengt
           within = omega (arith, c .within, t.less-pairs rows u r low held);
         })
 
-pub counts-none : (rows new : List ℕ) → length rows ≤ 4096 → new ≡ emptied rows → Counts new (replicate 64 0) 0
-counts-none rows new h e =
-    let l = length-replicate {A = ℕ} (length rows) 0 in
-    subst (λ x. Counts x (replicate 64 0) 0) (sym e) (record {
-      counted = sym (none-pairs (length rows));
-      each = λ k low. getD-replicate 64 k 0 0 low ∙ sym (none-members (length rows) k);
-      few = omega arith;
-      wide = λ u. subst (λ x. x < 2 ^ 64) (sym (none-row (length rows) u)) (pow-pos 64);
-      within = omega (arith, none-pairs (length rows));
-    })
+-- ---- all pairs of one user less
+module _ (rows ms : List ℕ) (n u w : ℕ) (c : Counts rows ms n) (low : u < length rows) (same : w ≡ row rows u) where
+  -- they are counted
+  pub row-pairs : ones w ≤ n
+  row-pairs = omega (arith, c .counted, getD-le-sumBy ones rows u 0 low, ap ones same)
+
+  pub row-members : (k : ℕ) → k < 64 → bit w k ≤ getD ms k 0
+  row-members k h = omega (arith, c .each k h, getD-le-sumBy (λ x. bit x k) rows u 0 low, ap (λ x. bit x k) same)
+
+  pub counts-off : (left new : List ℕ) → ((k : ℕ) → k < 64 → getD left k 0 + bit w k ≡ getD ms k 0) → new ≡ set rows u 0 → Counts new left (n - ones w)
+  counts-off left new off e =
+      let l = length-set rows u 0 in
+      let p = sumBy-set ones rows u 0 0 low in
+      subst (λ x. Counts x left (n - ones w)) (sym e) (record {
+        counted = omega (arith, c .counted, ones-none, ap ones same);
+        each = λ k h. omega (arith, sumBy-set (λ x. bit x k) rows u 0 0 low, bit-zero k, off k h, c .each k h, ap (λ x. bit x k) same);
+        few = omega (arith, c .few);
+        wide = each-row (λ x. x < 2 ^ 64) rows u 0 low (pow-pos 64) (c .wide);
+        within = omega (arith, c .within, ones-none);
+      })
 
 -- what counting found in a copy of the rows
 pub counts-found : (rows copy ms : List ℕ) (n : ℕ) → copy ≡ rows → length rows ≤ 4096 → n ≡ pairs copy → n ≤ 64 * length copy → ((u : ℕ) → row copy u < 2 ^ 64)

@@ -2,7 +2,7 @@ use mathlib.Core.Path.{_≡_}
 use mathlib.Core.List.{_++_}
 use lib.ListN.{length, drop, replicate}
 use Rattle.bit_rows.specs.Table.{rowsOf}
-use Rattle.bit_rows.proofs.table.RowTable.empty.Given as given
+use Rattle.bit_rows.proofs.BitRowsRegister.clear.Given as given
 
 abbrev pub Inv-loop-user : given.InvT-loop-user
 Inv-loop-user l =
