@@ -5,26 +5,22 @@ use mathlib.Core.Logic.{inl, inr}
 use Prim.Native.Nat.{ℕ, _+_, _-_, _/_, _^_, _<_, _≤_}
 use native.Mathlib.Omega.{arith}
 use lib.Bits.{bitAnd}
-use lib.Count.{ones}
 use lib.ListN.{length, getD, set, take}
 use Rattle.std.proofs.shelf.Bits.{and-mask, pow-pos}
 use Rattle.std.proofs.shelf.Lists.{getD-past, getD-set-same, getD-set-other, length-set}
-use Rattle.std.proofs.shelf.Sums.{sumBy-more}
 use Rattle.std.proofs.shelf.Tests.{cases-eq, cases-lt}
 use Rattle.terms.specs.Sets.{bit}
 use Rattle.terms.proofs.Bits.{bit-two}
-use Rattle.register.specs.Pairs.{row, pairs, having}
-
-pub pairs-more : (t : List ℕ) (i n : ℕ) → i < length t → n ≡ pairs (take i t) → n + ones (getD t i 0) ≡ pairs (take (i + 1) t)
-pairs-more t i n h e = ap (λ x. x + ones (getD t i 0)) e ∙ sym (sumBy-more ones t i 0 h)
+use Rattle.register.specs.Pairs.{row, having}
+use Rattle.register.proofs.Tables.{members-more}
 
 -- the bit as the code reads it
 pub bit-read : (w r : ℕ) → bitAnd (w / 2 ^ r) 1 ≡ bit w r
 unfolding bit
 bit-read w r = and-mask (w / 2 ^ r) 1
 
-pub members-more : (t : List ℕ) (i r n : ℕ) → i < length t → n ≡ having r (take i t) → n + bitAnd (getD t i 0 / 2 ^ r) 1 ≡ having r (take (i + 1) t)
-members-more t i r n h e = ap (λ x. x + bitAnd (getD t i 0 / 2 ^ r) 1) e ∙ ap (λ x. having r (take i t) + x) (bit-read (getD t i 0) r) ∙ sym (sumBy-more (λ w. bit w r) t i 0 h)
+pub bits-more : (t : List ℕ) (i r n : ℕ) → i < length t → n ≡ having r (take i t) → n + bitAnd (row t i / 2 ^ r) 1 ≡ having r (take (i + 1) t)
+bits-more t i r n h e = ap (λ x. n + x) (bit-read (row t i) r) ∙ members-more t i r n h e
 
 pub bit-least : (w r : ℕ) → bitAnd (w / 2 ^ r) 1 ≤ 1
 bit-least w r = omega (arith, bit-read w r, bit-two w r)

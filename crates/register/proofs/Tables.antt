@@ -2,17 +2,17 @@
 use mathlib.Core.Path.{_≡_, refl, sym, ap, subst, _∙_}
 use mathlib.Core.List.{List, [], _∷_}
 use mathlib.Core.Logic.{_⊎_, inl, inr}
-use Prim.Native.Nat.{ℕ, zero, suc, _+_, _^_, _<_, _≤_}
+use Prim.Native.Nat.{ℕ, zero, suc, _+_, _*_, _^_, _<_, _≤_}
 use native.Mathlib.Omega.{arith}
 use lib.Bits.{bitOr, bitXor}
-use lib.Count.{ones}
-use lib.ListN.{length, getD, set, replicate}
+use lib.Count.{ones, ones-le}
+use lib.ListN.{length, getD, set, take, replicate}
 use Rattle.std.specs.shelf.Lists.{sumBy}
-use Rattle.std.proofs.shelf.Lists.{getD-set-same, getD-set-other, getD-past, getD-replicate, length-replicate, length-set}
-use Rattle.std.proofs.shelf.Sums.{sumBy-cons, sumBy-set}
+use Rattle.std.proofs.shelf.Lists.{ext-getD, getD-set-same, getD-set-other, getD-past, getD-replicate, length-replicate}
+use Rattle.std.proofs.shelf.Sums.{sumBy-cons, sumBy-more, sumBy-set}
 use Rattle.std.proofs.shelf.Tests.{cases-eq, cases-lt}
 use Rattle.terms.specs.Sets.{bit, In}
-use Rattle.terms.proofs.Bits.{bit-zero, bit-off, bit-two, with-new, with-other, less-gone, less-other, in-or-l, none-in}
+use Rattle.terms.proofs.Bits.{bit-zero, bit-off, bit-high, same-digits, with-new, with-other, less-gone, less-other, in-or-l, none-in}
 use Rattle.terms.proofs.Sizes.{ones-none, ones-mono, ones-with, ones-less}
 use Rattle.register.specs.Pairs.{row, Has, pairs, having, withPair, lessPair}
 
@@ -57,6 +57,12 @@ module _ (t : List ℕ) (u r : ℕ) (low : u < length t) where
     | inr ne ↦ inl (subst (In k) (row-other t u v (bitOr (row t u) (2 ^ r)) ne) h)
   ]
 
+  pub with-rest : (v k : ℕ) → ((v ≡ u) × (k ≡ r) → ⊥) → bit (row (withPair t u r) v) k ≡ bit (row t v) k
+  with-rest v k ne = elim (cases-eq v u) [
+    | inl e ↦ same-user t u (bitOr (row t u) (2 ^ r)) v k low e ∙ with-other (row t u) r k (λ q. ne (e, q)) ∙ ap (λ x. bit (row t x) k) (sym e)
+    | inr other ↦ ap (λ w. bit w k) (row-other t u v (bitOr (row t u) (2 ^ r)) other)
+  ]
+
   module _ (free : Has t u r → ⊥) where
     pub with-pairs : pairs (withPair t u r) ≡ pairs t + 1
     with-pairs = omega (arith, sumBy-set ones t u (bitOr (row t u) (2 ^ r)) 0 low, ones-with (row t u) r free)
@@ -68,9 +74,18 @@ module _ (t : List ℕ) (u r : ℕ) (low : u < length t) where
   with-others k ne = omega (arith, sumBy-set (λ w. bit w k) t u (bitOr (row t u) (2 ^ r)) 0 low, with-other (row t u) r k ne)
 
   -- ---- one pair less
+  pub less-rest : (v k : ℕ) → ((v ≡ u) × (k ≡ r) → ⊥) → bit (row (lessPair t u r) v) k ≡ bit (row t v) k
+  less-rest v k ne = elim (cases-eq v u) [
+    | inl e ↦ same-user t u (bitXor (row t u) (2 ^ r)) v k low e ∙ less-other (row t u) r k (λ q. ne (e, q)) ∙ ap (λ x. bit (row t x) k) (sym e)
+    | inr other ↦ ap (λ w. bit w k) (row-other t u v (bitXor (row t u) (2 ^ r)) other)
+  ]
+
   module _ (has : Has t u r) where
+    pub less-bit : bit (row (lessPair t u r) u) r ≡ 0
+    less-bit = same-user t u (bitXor (row t u) (2 ^ r)) u r low refl ∙ less-gone (row t u) r has
+
     pub less-has : Has (lessPair t u r) u r → ⊥
-    less-has h = omega (arith, less-gone (row t u) r has, same-user t u (bitXor (row t u) (2 ^ r)) u r low refl)
+    less-has h = omega (arith, less-bit)
 
     pub less-stays : (v k : ℕ) → Has t v k → Has (lessPair t u r) v k ⊎ ((v ≡ u) × (k ≡ r))
     less-stays v k h = elim (cases-eq v u) [
@@ -98,6 +113,14 @@ module _ (t : List ℕ) (u r : ℕ) (low : u < length t) where
 
   pub less-others : (k : ℕ) → (k ≡ r → ⊥) → having k (lessPair t u r) ≡ having k t
   less-others k ne = omega (arith, sumBy-set (λ w. bit w k) t u (bitXor (row t u) (2 ^ r)) 0 low, less-other (row t u) r k ne)
+
+-- ---- rows of 64 bits that have the same bits are equal
+pub same-rows : (s t : List ℕ) → length s ≡ length t → ((u : ℕ) → row s u < 2 ^ 64) → ((u : ℕ) → row t u < 2 ^ 64)
+    → ((u k : ℕ) → u < length s → k < 64 → bit (row s u) k ≡ bit (row t u) k) → s ≡ t
+same-rows s t n f g h = ext-getD 0 s t n (λ u low. same-digits (row s u) (row t u) (λ k. elim (cases-lt k 64) [
+  | inl l ↦ h u k low l
+  | inr b ↦ bit-high (row s u) 64 k (f u) b ∙ sym (bit-high (row t u) 64 k (g u) b)
+]))
 
 -- ---- a part of a set of pairs has no more of them
 sum-none : (f : ℕ → ℕ) → f 0 ≡ 0 → (xs : List ℕ) → ((u : ℕ) → f (row xs u) ≤ f 0) → sumBy f xs ≡ 0
@@ -131,3 +154,15 @@ none-pairs n = sum-none ones ones-none (replicate n 0) (λ u. omega (arith, ap o
 
 pub none-members : (n r : ℕ) → having r (replicate n 0) ≡ 0
 none-members n r = sum-none (λ w. bit w r) (bit-zero r) (replicate n 0) (λ u. omega (arith, ap (λ w. bit w r) (none-row n u)))
+
+-- ---- rows of 64 bits have at most 64 pairs each
+pub pairs-most : (t : List ℕ) → ((u : ℕ) → row t u < 2 ^ 64) → pairs t ≤ 64 * length t
+pairs-most [] h = omega arith
+pairs-most (w ∷ t) h = omega (arith, sumBy-cons ones w t, ones-le 64 w (h 0), pairs-most t (λ u. h (suc u)))
+
+-- ---- counting row after row
+pub pairs-more : (t : List ℕ) (i n : ℕ) → i < length t → n ≡ pairs (take i t) → n + ones (row t i) ≡ pairs (take (i + 1) t)
+pairs-more t i n h e = ap (λ x. x + ones (row t i)) e ∙ sym (sumBy-more ones t i 0 h)
+
+pub members-more : (t : List ℕ) (i r n : ℕ) → i < length t → n ≡ having r (take i t) → n + bit (row t i) r ≡ having r (take (i + 1) t)
+members-more t i r n h e = ap (λ x. x + bit (row t i) r) e ∙ sym (sumBy-more (λ w. bit w r) t i 0 h)

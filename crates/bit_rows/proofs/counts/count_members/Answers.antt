@@ -4,7 +4,7 @@ use native.Mathlib.Omega.{arith}
 use lib.ListN.{getD, length}
 use Rattle.std.proofs.shelf.Lists.{take-all}
 use Rattle.register.specs.Pairs.{having}
-use Rattle.bit_rows.proofs.Counting.{members-more, bit-least}
+use Rattle.bit_rows.proofs.Counting.{bits-more, bit-least}
 use Rattle.bit_rows.proofs.counts.count_members.Needs as need
 
 pub loop-word-again : need.loop-word-again
@@ -13,7 +13,7 @@ loop-word-again c =
     let i = c .loop-word .word-index in
     let low : i < length t = omega arith in
     let k = bit-least (getD t i 0) (c .args .role) in
-    (members-more t i (c .args .role) (c .loop-word .members) low (c .loop-word .inv .0), omega arith)
+    (bits-more t i (c .args .role) (c .loop-word .members) low (c .loop-word .inv .0), omega arith)
 
 pub returns : need.returns
 returns c =

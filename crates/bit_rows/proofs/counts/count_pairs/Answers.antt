@@ -6,7 +6,8 @@ use lib.Count.{ones, ones-le}
 use lib.ListN.{getD, length}
 use Rattle.std.proofs.shelf.Lists.{take-all}
 use Rattle.register.specs.Pairs.{pairs}
-use Rattle.bit_rows.proofs.Counting.{pairs-more, all-wide}
+use Rattle.register.proofs.Tables.{pairs-more}
+use Rattle.bit_rows.proofs.Counting.{all-wide}
 use Rattle.bit_rows.proofs.counts.count_pairs.Needs as need
 
 pub add-pairs : need.add-pairs
