@@ -14,7 +14,7 @@ use crate::counts::count_pairs;
 use crate::counts::rows_of;
 use crate::counts::without_row;
 use register::Register;
-use register::fault::RegisterFault;
+use register::RegisterFault;
 use terms::sets::contains;
 use terms::sets::with_member;
 
@@ -81,7 +81,7 @@ pub impl<'a> Register for BitRows<'a> as BitRowsRegister {
     }
 
     fn pairs(&self) -> u32 {
-        self.pairs
+        self.pairs // counted at making, and kept by each change
     }
 
     fn members(&self, role: u32) -> u32 {

@@ -7,7 +7,7 @@ ghost use denote.Ref.{now as pointee, name};
 ghost use Rattle.register.specs.Pairs.{row as rowAt, pairs as pairCount};
 ghost use Rattle.flag_table.specs.Flags.{rowsOf, usersIn, modelOf, spareOf};
 use register::Register;
-use register::fault::RegisterFault;
+use register::RegisterFault;
 use terms::sets::with_member;
 
 // The flag of user u and role r is at 64 * u + r; every role has the same number of seats.

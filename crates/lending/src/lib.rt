@@ -9,7 +9,7 @@ ghost use Rattle.lending.specs.Whole.{whole};
 use bit_rows::BitRows;
 use bit_rows::BitRowsRegister;
 use register::Register;
-use register::fault::RegisterFault;
+use register::RegisterFault;
 use register::lent::LentRegister;
 use register::seats::SeatLayer;
 use register::seats::SeatLayerRegister;

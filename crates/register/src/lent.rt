@@ -3,7 +3,7 @@ ghost use mathlib.Core.Path.{_≡_};
 ghost use denote.Ref.{now as pointee, name};
 ghost use Rattle.register.specs.Model.{lentBy};
 use crate::Register;
-use crate::fault::RegisterFault;
+use crate::RegisterFault;
 
 pub impl<'e, R: Register> Register for &'e mut R as LentRegister {
     ghost model = { λ s. R·Register .model (pointee s) };

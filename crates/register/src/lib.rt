@@ -11,15 +11,18 @@ pub mod laws;
 pub mod lent;
 pub mod seats;
 
-use crate::fault::RegisterFault;
+pub use crate::fault::RegisterFault;
 
 // What integrators implement. Every register means a `Model`, which is sound at every moment;
 // each call says what it answers and which model it leaves, for every state.
 pub trait Register {
+    // The register's meaning: its users and pairs as rows, its places, its seats.
     ghost model: { Self → Model };
 
+    // What no call changes of the memory that was lent to it.
     ghost kept: { Self → Kept };
 
+    // The meaning is sound at every moment.
     ghost sound: { (s : Self) → Sound (model s) };
 
     // The number of users; user numbers are below it.
@@ -30,7 +33,7 @@ pub trait Register {
     fn places(&self) -> u32
         ensures { λ r. ⌜ r ≡ model (now (self .entry)) .places ⌝ };
 
-    // The seats of a role, which are the most members that it may be given.
+    // The seats of a role, which are the most members that it may be given; a role above 63 has none.
     fn seats(&self, role: u32) -> u32
         ensures { λ r. ⌜ r ≡ seatsOf (model (now (self .entry))) role ⌝ };
 
@@ -38,11 +41,11 @@ pub trait Register {
     fn pairs(&self) -> u32
         ensures { λ r. ⌜ r ≡ pairs (model (now (self .entry)) .rows) ⌝ };
 
-    // The number of a role's members.
+    // The number of a role's members; a role above 63 has none.
     fn members(&self, role: u32) -> u32
         ensures { λ r. ⌜ r ≡ members (model (now (self .entry)) .rows) role ⌝ };
 
-    // The roles of a user.
+    // The roles of a user, who has none where he is not below the number of users.
     fn row(&self, user: u32) -> u64
         ensures { λ r. ⌜ r ≡ row (model (now (self .entry)) .rows) user ⌝ };
 

@@ -3,7 +3,7 @@ ghost use mathlib.Core.Path.{_≡_};
 ghost use Rattle.register.specs.Changes.{cleared};
 ghost use Rattle.register.specs.Layer.{ownSeats, seated, seated-sound, turnsAway};
 use crate::Register;
-use crate::fault::RegisterFault;
+use crate::RegisterFault;
 use terms::sets::contains;
 
 // Users, places and pairs are those of the register below.
