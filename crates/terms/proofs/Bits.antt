@@ -120,7 +120,7 @@ differ-is (suc x) (suc y) = differ-is x y ∙ omega arith
 xor-low : (a b : ℕ) → bitXor a b % 2 ≡ differ (a % 2) (b % 2)
 xor-low a b = ap (λ x. x % 2) (xor-step a b) ∙ digits-mod (bitXor (a / 2) (b / 2)) (omega (arith, differ-is (a % 2) (b % 2), mod-lt a (zero-lt-suc 1), mod-lt b (zero-lt-suc 1)))
 
-bit-xor : (a b k : ℕ) → bit (bitXor a b) k ≡ differ (bit a k) (bit b k)
+pub bit-xor : (a b k : ℕ) → bit (bitXor a b) k ≡ differ (bit a k) (bit b k)
 unfolding bit
 bit-xor a b k = ap (λ x. x % 2) (xor-shr a b k) ∙ xor-low (a / 2 ^ k) (b / 2 ^ k)
 
@@ -143,6 +143,34 @@ cut w g = record {
   apart = λ k h i. omega (arith, cut-bit w g k, bit-two w k);
   less = λ k h i. omega (arith, cut-sum w g, in-pos (bitAnd w g) k (omega (arith, bit-and w g k)));
 }
+
+-- ---- one member more
+
+pub bit-off : (w k : ℕ) → (In k w → ⊥) → bit w k ≡ 0
+bit-off w k n = elim (cases-eq (bit w k) 1) [ inl e ↦ absurd (n e) | inr ne ↦ let b = bit-two w k in omega arith ]
+
+one-other : (r k : ℕ) → (k ≡ r → ⊥) → bit (2 ^ r) k ≡ 0
+one-other r k ne = bit-off (2 ^ r) k (λ h. ne (in-one-only r k h))
+
+pub with-new : (w r : ℕ) → In r (bitOr w (2 ^ r))
+with-new w r = in-or-r w (2 ^ r) r (in-one r)
+
+pub with-other : (w r k : ℕ) → (k ≡ r → ⊥) → bit (bitOr w (2 ^ r)) k ≡ bit w k
+with-other w r k ne = omega (arith, bit-or w (2 ^ r) k, one-other r k ne)
+
+-- ---- one member less
+
+pub less-gone : (w r : ℕ) → In r w → bit (bitXor w (2 ^ r)) r ≡ 0
+less-gone w r h = omega (arith, bit-xor w (2 ^ r) r, differ-is (bit w r) (bit (2 ^ r) r), in-one r)
+
+pub less-other : (w r k : ℕ) → (k ≡ r → ⊥) → bit (bitXor w (2 ^ r)) k ≡ bit w k
+less-other w r k ne = omega (arith, bit-xor w (2 ^ r) k, differ-is (bit w k) (bit (2 ^ r) k), one-other r k ne)
+
+pub less-back : (w r : ℕ) → In r w → bitOr (bitXor w (2 ^ r)) (2 ^ r) ≡ w
+less-back w r h = same-digits (bitOr (bitXor w (2 ^ r)) (2 ^ r)) w (λ k. elim (cases-eq k r) [
+  | inl e ↦ subst (λ x. bit (bitOr (bitXor w (2 ^ r)) (2 ^ r)) x ≡ bit w x) (sym e) (with-new (bitXor w (2 ^ r)) r ∙ sym h)
+  | inr ne ↦ with-other (bitXor w (2 ^ r)) r k ne ∙ less-other w r k ne
+])
 
 -- ---- the lowest member
 

@@ -3,18 +3,19 @@ use mathlib.Core.Path.{_≡_, refl, sym, ap, subst, _∙_}
 use mathlib.Core.Bool.{cond}
 use mathlib.Core.List.{List, [], _∷_}
 use mathlib.Core.Logic.{_⊎_, inl, inr}
-use Prim.Native.Nat.{ℕ, zero, suc, _+_, _-_, _*_, _/_, _%_, _<_, _≤_, zero-le}
-use native.Mathlib.Nat.{mod-lt, zero-lt-suc, le-trans, add-mul}
+use Prim.Native.Nat.{ℕ, zero, suc, _+_, _-_, _*_, _/_, _%_, _^_, _<_, _≤_, zero-le}
+use native.Mathlib.Nat.{mod-lt, zero-lt-suc, le-trans, add-mul, one-mul, add-zero}
 use native.Mathlib.Omega.{arith}
 use lib.Dec.{eqb}
-use lib.Bits.{bitAnd, bitOr}
+use lib.Bits.{bitAnd, bitOr, bitXor}
 use lib.Arith.{bin-ind}
-use lib.Count.{ones, ones-step}
+use lib.Count.{ones, ones-step, ones-cat}
 use lib.ListN.{getD, length}
+use lib.Pow.{pow-pos}
 use Rattle.std.proofs.shelf.Lists.{getD-past}
 use Rattle.std.proofs.shelf.Tests.{cases-eq, eq-eqb, ne-eqb}
-use Rattle.terms.specs.Sets.{In, Within, union}
-use Rattle.terms.proofs.Bits.{bit-first, bit-next, in-and, in-both, in-or}
+use Rattle.terms.specs.Sets.{bit, In, Within, union}
+use Rattle.terms.proofs.Bits.{bit-first, bit-next, bit-off, in-and, in-both, in-or, in-or-l, in-or-r, in-one-only, less-gone, less-back}
 
 -- a part of a set has no more numbers
 low-le : (a b : ℕ) → Within a b → a % 2 ≤ b % 2
@@ -87,6 +88,19 @@ ones-either = bin-ind (λ c. (a b : ℕ) → ((k : ℕ) → In k c → In k a �
       either-low c a b h,
       ih (a / 2) (b / 2) (λ k i. elim (h (suc k) (bit-next c k ∙ i)) [ inl x ↦ inl (sym (bit-next a k) ∙ x) | inr y ↦ inr (sym (bit-next b k) ∙ y) ]),
     ))
+
+-- ---- one number more, and one less
+ones-one : (r : ℕ) → ones (2 ^ r) ≡ 1
+ones-one r = ap ones (omega (arith, one-mul (2 ^ r))) ∙ ones-cat r 1 0 (pow-pos r) ∙ omega (arith, ones-none, ones-step 1)
+
+pub ones-with : (w r : ℕ) → (In r w → ⊥) → ones (bitOr w (2 ^ r)) ≡ ones w + 1
+ones-with w r n =
+    let most = ones-either (bitOr w (2 ^ r)) w (2 ^ r) (in-or w (2 ^ r)) in
+    let least = ones-apart (bitOr w (2 ^ r)) w (2 ^ r) (in-or-l w (2 ^ r)) (in-or-r w (2 ^ r)) (λ k h i. n (subst (λ x. In x w) (in-one-only r k i) h)) in
+    omega (arith, ones-one r)
+
+pub ones-less : (w r : ℕ) → In r w → ones (bitXor w (2 ^ r)) + 1 ≡ ones w
+ones-less w r h = sym (ones-with (bitXor w (2 ^ r)) r (λ i. omega (arith, less-gone w r h))) ∙ ap ones (less-back w r h)
 
 -- ---- rows of which each gives at most g of q: those of w together give at most g for each
 row-in : (row w : ℕ) → w % 2 ≡ 1 → cond (eqb (w % 2) 1) row 0 ≡ row

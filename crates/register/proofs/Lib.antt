@@ -1,0 +1,4 @@
+pub mod Tables
+pub mod Cases
+pub mod Exact
+pub mod Layers
