@@ -38,7 +38,7 @@ module _ (bs : List ℕ) (i : ℕ) (within : i < length bs) where
 pub power-more : (n i d : ℕ) → n < 10 ^ i → d ≤ 9 → n * 10 + d < 10 ^ (i + 1)
 power-more n i d l h = let p : 10 ^ (i + 1) ≡ 10 ^ i * 10 = pow-add 10 i 1 in rw p (omega arith)
 
-power-le : (i j : ℕ) → i ≤ j → 10 ^ i ≤ 10 ^ j
+pub power-le : (i j : ℕ) → i ≤ j → 10 ^ i ≤ 10 ^ j
 power-le i j h = pow-le-pow-right (omega arith) h
 
 pub power-up : (n i j : ℕ) → n < 10 ^ i → i ≤ j → n < 10 ^ j

@@ -5,9 +5,8 @@ use mathlib.Core.Logic.{_⊎_, inl, inr, ⊎-elim}
 use mathlib.Core.List.{List, _∷_, _++_}
 use Prim.Native.Nat.{ℕ, _+_, _≤_, _<_}
 use native.Mathlib.Omega.{arith}
-use native.Mathlib.Nat.{add-zero}
 use lib.ListN.{length, getD, drop, length-drop}
-use Rattle.std.proofs.shelf.Lists.{getD-drop, drop-more}
+use Rattle.std.proofs.shelf.Lists.{drop-more}
 use Rattle.std.proofs.shelf.Tests.{false≢true}
 use Rattle.text.specs.declared.field.Field.{Field}
 use Rattle.text.specs.declared.field.TextFault.{TextFault}
@@ -21,6 +20,7 @@ use Rattle.text.specs.Faults.Wrong.{bare, stray, unclosed, extra}
 use Rattle.text.specs.Faults.Broken.{here, later}
 use Rattle.text.specs.Laws.{OneField, OneFault, OneCause}
 use Rattle.text.proofs.Contents.{plain-unique, escape-unique, escape-open}
+use Rattle.text.proofs.Marks.{head-at}
 use Rattle.text.proofs.Spans.{stopped-at, unquoted, wrong-none}
 use Rattle.text.proofs.Once.{fielded-unique, broken-none, handed}
 
@@ -48,7 +48,7 @@ upto-unique s at i j true false c d h k = absurd (k .opens (ap (λ l. getD l 0 0
 
 -- a field that ends is not open
 upto-closed : (s : List ℕ) (at i : ℕ) (q : Bool) (c : List ℕ) → Upto s at i q c → at < length s → getD s at 0 ≡ 34 → Unclosed s (at + 1) → ⊥
-upto-closed s at i false c h l e u = h .opens (getD-drop at s 0 0 ∙ ap (λ k. getD s k 0) (add-zero at) ∙ e)
+upto-closed s at i false c h l e u = h .opens (head-at s at ∙ e)
 upto-closed s at i true c h l e u =
     let d = drop-more s at 0 l in
     let b : drop at s ≡ 34 ∷ drop (at + 1) s = cc in

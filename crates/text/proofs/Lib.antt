@@ -5,5 +5,6 @@ pub mod Records
 pub mod Once
 pub mod Faulted
 pub mod Walked
+pub mod Whole
 pub mod Digits
 pub mod Lines

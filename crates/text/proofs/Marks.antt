@@ -70,9 +70,14 @@ escaped-quote s from i l h e f =
 pub escaped-all : (s : List ℕ) (from i : ℕ) → length s ≤ i → EscapedTo s from i → Unclosed s from
 escaped-all s from i l h = (h .0, h .1 ∙ ap (λ u. escape (h .0) ++ u) (drop-all i s l) ∙ append-nil (escape (h .0)))
 
-pub once-at : (s : List ℕ) (i : ℕ) → (i + 1 < length s → getD s (i + 1) 0 ≡ 34 → ⊥) → NoQuote (drop (i + 1) s)
-once-at s i n e =
+-- the first byte of what is left from i on
+pub head-at : (s : List ℕ) (i : ℕ) → getD (drop i s) 0 0 ≡ getD s i 0
+head-at s i = getD-drop i s 0 0 ∙ ap (λ k. getD s k 0) (add-zero i)
+
+-- no quote stands at i
+pub no-quote : (s : List ℕ) (i : ℕ) → (i < length s → getD s i 0 ≡ 34 → ⊥) → NoQuote (drop i s)
+no-quote s i n e =
     ⊎-elim
-    (λ l. n l (sym (getD-drop (i + 1) s 0 0 ∙ ap (λ k. getD s k 0) (add-zero (i + 1))) ∙ e))
-    (λ l. let d = drop-all (i + 1) s l in let z : _≡_ {A = ℕ} 0 34 = sym (ap (λ u. getD u 0 0) d) ∙ e in omega arith)
-    (cases-lt (i + 1) (length s))
+    (λ l. n l (sym (head-at s i) ∙ e))
+    (λ l. let z : _≡_ {A = ℕ} 0 34 = sym (ap (λ u. getD u 0 0) (drop-all i s l)) ∙ e in omega arith)
+    (cases-lt i (length s))

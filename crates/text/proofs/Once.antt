@@ -70,7 +70,7 @@ broken-none s at _ fault (later t e b) cs rest (last f n) = n (sym (fielded-uniq
 broken-none s at _ fault (later {mid = mid} t e b) cs rest (more {cs = ds} f k) =
     broken-none s mid _ fault b ds rest (subst (λ u. Recorded u ds rest) (sym (fielded-unique _ _ _ _ _ _ _ _ _ (t .fielded) f .3)) k)
 
-took-comma : (s : List ℕ) (at after : ℕ) (f : Field) (h : Took s at f after) → f .mark ≡ Comma → Fielded (drop at s) (f .quoted) (h .content) Comma (drop after s)
+pub took-comma : (s : List ℕ) (at after : ℕ) (f : Field) (h : Took s at f after) → f .mark ≡ Comma → Fielded (drop at s) (f .quoted) (h .content) Comma (drop after s)
 took-comma s at after f h e = subst (λ m. Fielded (drop at s) (f .quoted) (h .content) m (drop after s)) e (h .fielded)
 
 -- the fields handed out are a record

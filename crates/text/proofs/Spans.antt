@@ -5,9 +5,8 @@ use mathlib.Core.Logic.{_⊎_, ⊎-elim}
 use mathlib.Core.List.{List, [], _∷_, _++_, append-assoc}
 use Prim.Native.Nat.{ℕ, _+_, _-_, _≤_, _<_}
 use native.Mathlib.Omega.{arith}
-use native.Mathlib.Nat.{add-zero}
 use lib.ListN.{length, getD, take, drop, length-drop, length-append}
-use Rattle.std.proofs.shelf.Lists.{drop-more, drop-all, getD-drop, take-at}
+use Rattle.std.proofs.shelf.Lists.{drop-more, drop-all, take-at}
 use Rattle.std.proofs.shelf.Tests.{cases-eq, cases-lt}
 use Rattle.text.specs.declared.field.Mark.{Mark}
 use Rattle.text.specs.declared.field.Mark.the-variants.{Comma, Line, End}
@@ -19,7 +18,7 @@ use Rattle.text.specs.Scans.{NoQuote, PlainTo, Unclosed, Closes, Upto, past, S
 use Rattle.text.specs.Faults.{Wrong}
 use Rattle.text.specs.Faults.Wrong.{bare, stray, unclosed, extra}
 use Rattle.text.proofs.Contents.{Stopped, plain-unique, escape-unique, escape-open}
-use Rattle.text.proofs.Marks.{NoMark, no-mark}
+use Rattle.text.proofs.Marks.{NoMark, no-mark, head-at}
 
 -- the part of s up to `end` is what stands before the rest
 pub part-is : (s c : List ℕ) (at end : ℕ) → at ≤ end → end ≤ length s → drop at s ≡ c ++ drop end s → take (end - at) (drop at s) ≡ c
@@ -38,13 +37,6 @@ part-length s c at end l w e =
     let a = length-drop at s in
     let b = length-drop end s in
     omega arith
-
-pub plain-begins : (s : List ℕ) (at : ℕ) → (at < length s → getD s at 0 ≡ 34 → ⊥) → NoQuote (drop at s)
-plain-begins s at n e =
-    ⊎-elim
-    (λ l. n l (sym (getD-drop at s 0 0 ∙ ap (λ k. getD s k 0) (add-zero at)) ∙ e))
-    (λ l. let z : _≡_ {A = ℕ} 0 34 = sym (ap (λ u. getD u 0 0) (drop-all at s l)) ∙ e in omega arith)
-    (cases-lt at (length s))
 
 pub stopped-at : (s : List ℕ) (i : ℕ) → (i < length s → Plain (getD s i 0) → ⊥) → Stopped (drop i s)
 stopped-at s i n =
@@ -130,7 +122,7 @@ stop-quote s i l stops a b d = ⊎-elim (λ e. e) (λ n. absurd (stops l (a, n, 
 
 -- the byte after a closing quote that begins no mark
 pub stop-plain : (s : List ℕ) (i : ℕ) → NoQuote (drop i s) → (getD s i 0 ≡ 44 → ⊥) → (getD s i 0 ≡ 13 → ⊥) → (getD s i 0 ≡ 10 → ⊥) → Plain (getD s i 0)
-stop-plain s i n a b d = (a, λ e. n (getD-drop i s 0 0 ∙ ap (λ k. getD s k 0) (add-zero i) ∙ e), b, d)
+stop-plain s i n a b d = (a, λ e. n (head-at s i ∙ e), b, d)
 
 -- a span as its parts say it, with the place after its closing quote
 pub span-upto : (s : List ℕ) (at after : ℕ) (p : Span) (h : Spans s at p) → after ≡ past (p .quoted) (p .end) → Upto s at after (p .quoted) (h .content)

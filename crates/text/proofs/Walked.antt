@@ -32,7 +32,7 @@ walked-none text = record { before = []; reads = none; counted = refl; few = ome
 pub bytes-left : (s t : List ℕ) (at : ℕ) → s ≡ t → false ≡ eqb at (length s) → at ≤ length t → at < length t
 bytes-left s t at e f l = let n : at ≡ length s → ⊥ = eqb-false at (length s) (sym f) in omega (arith, ap length e)
 
-some-left : (s : List ℕ) (at : ℕ) → at < length s → drop at s ≡ [] → ⊥
+pub some-left : (s : List ℕ) (at : ℕ) → at < length s → drop at s ≡ [] → ⊥
 some-left s at l e = let a = length-drop at s in let z = ap length e in omega arith
 
 pub skipped-later : (s : List ℕ) (at n next : ℕ) → at < length s → Skipped s at n next → at < next

@@ -7,3 +7,4 @@ pub mod Faults
 pub mod Extents
 pub mod Laws
 pub mod Walks
+pub mod Steps

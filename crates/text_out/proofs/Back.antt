@@ -5,7 +5,6 @@ use mathlib.Core.Logic.{inl, ⊎-elim}
 use mathlib.Core.List.{List, [], _∷_, _++_, append-assoc, map}
 use Prim.Native.Nat.{ℕ, _+_, _^_, _≤_, _<_}
 use native.Mathlib.Omega.{arith}
-use native.Mathlib.Nat.{pow-le-pow-right}
 use borrow.Author.Needs.{needs}
 use lib.ListN.{length, drop, length-append}
 use Rattle.std.specs.Joined.{joined}
@@ -20,6 +19,7 @@ use Rattle.text.specs.Grammar.Recorded.{last, more}
 use Rattle.text.specs.Grammar.ReadsTo.{none, next}
 use Rattle.text.specs.Numbers.{AllDigits, valueAfter, Number}
 use Rattle.text.specs.FirstLine.{LineAt, Headed}
+use Rattle.text.proofs.Digits.{power-le}
 use Rattle.text.proofs.Lines.{headed-unique}
 use Rattle.text.proofs.Once.{reading-unique}
 use Rattle.text_out.specs.Written.{newline, further, line, headerLine, table}
@@ -31,9 +31,6 @@ own = numerals-by-fold _ (search needs) valueAfter (search needs)
 digits-plain : (c : List ℕ) → AllDigits c → AllPlain c
 digits-plain [] a = tt
 digits-plain (b ∷ c) a = let d = a .0 in ((λ e. omega arith, λ e. omega arith, λ e. omega arith, λ e. omega arith), digits-plain c (a .1))
-
-power-le : (i j : ℕ) → i ≤ j → 10 ^ i ≤ 10 ^ j
-power-le i j h = pow-le-pow-right (omega arith) h
 
 module _ (limit : ℕ) (some : 0 < limit) (few : limit ≤ 19) where
   fits : (n : ℕ) → n < 10 ^ limit → n < 2 ^ 64

@@ -1,6 +1,7 @@
+use Prim.Native.Nat.{_+_}
 use native.Mathlib.Omega.{arith}
 use borrow.Author.Needs.{needs}
-use Rattle.text.proofs.Marks.{escaped-other, escaped-quote, escaped-all, once-at}
+use Rattle.text.proofs.Marks.{escaped-other, escaped-quote, escaped-all, no-quote}
 use Rattle.text.proofs.field.quote_end.Needs as need
 use Rattle.text.proofs.field.quote_end.Needs.{else-i-text·by·then-i-text·else-text-i-eq34, else-i-text·by·else-i-text}
 
@@ -16,7 +17,7 @@ returns-else-i-text c = record {
   after = omega arith;
   within = omega arith;
   quote = search needs;
-  once = once-at (c .args .text .now) (c .loop-i .i)
+  once = no-quote (c .args .text .now) (c .loop-i .i + 1)
       (elim (c .else-i-text .came) [
         | else-i-text·by·then-i-text·else-text-i-eq34 w ↦ λ a b. w .if-text-i-eq34 .left b
         | else-i-text·by·else-i-text w ↦ λ a b. omega (arith, w .if-i-text .left)

@@ -2,7 +2,8 @@ use mathlib.Core.Path.{refl}
 use native.Mathlib.Omega.{arith}
 use borrow.Author.Needs.{needs}
 use Rattle.text.specs.Faults.Wrong.{unclosed}
-use Rattle.text.proofs.Spans.{plain-begins, plain-upto, quoted-upto}
+use Rattle.text.proofs.Marks.{no-quote}
+use Rattle.text.proofs.Spans.{plain-upto, quoted-upto}
 use Rattle.text.proofs.field.span_at.Needs as need
 use Rattle.text.proofs.field.span_at.Needs.{else-at-text·by·then-at-text·else-text-at-eq34, else-at-text·by·else-at-text}
 
@@ -23,7 +24,7 @@ returns-then-text-at-eq34 c =
 pub returns : need.returns
 returns c =
     let e = c .plain-end-end .ensures in
-    let n = plain-begins (c .args .text .now) (c .args .at)
+    let n = no-quote (c .args .text .now) (c .args .at)
     (elim (c .else-at-text .came) [
       | else-at-text·by·then-at-text·else-text-at-eq34 w ↦ λ a b. w .if-text-at-eq34 .left b
       | else-at-text·by·else-at-text w ↦ λ a b. omega (arith, w .if-at-text .left)

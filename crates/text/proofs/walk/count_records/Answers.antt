@@ -29,14 +29,14 @@ loop-reader-less c =
     let h = c .in-rest .ensures tt in
     let l = bytes-left (c .loop-reader .reader .text .now) (c .args .text .now) (c .loop-reader .reader .at) (i .0) (c .loop-reader-test .ensures tt) (i .1 .within) in
     let w : c .loop-reader .reader .at < length (c .loop-reader .reader .text .now) = omega (arith, l, ap length (i .0)) in
-    omega (arith, w, skipped-later (c .loop-reader .reader .text .now) (c .loop-reader .reader .at) (c .in-rest .field-0) (c .skip-record .last .self .at) w (h .count), ap (λ r. length (r .now)) (h .same))
+    omega (arith, w, skipped-later (c .loop-reader .reader .text .now) (c .loop-reader .reader .at) (c .in-rest .field-0) (c .skip-record .last .self .at) w (h .count), ap (λ r. length (r .now)) {x = c .skip-record .last .self .text} {y = c .loop-reader .reader .text} (h .same))
 
 pub loop-reader-again : need.loop-reader-again
 loop-reader-again c =
     let i = c .loop-reader .inv in
     let h = c .in-rest .ensures tt in
     let l = bytes-left (c .loop-reader .reader .text .now) (c .args .text .now) (c .loop-reader .reader .at) (i .0) (c .loop-reader-test .ensures tt) (i .1 .within) in (
-      ap (λ r. r .now) (h .same) ∙ i .0,
+      ap (λ r. r .now) {x = c .skip-record .last .self .text} {y = c .loop-reader .reader .text} (h .same) ∙ i .0,
       walked-more (c .args .text .now) (c .loop-reader .reader .at) (c .loop-reader .count) (c .in-rest .field-0) (c .skip-record .last .self .at) l (i .1) (subst (λ t. Skipped t (c .loop-reader .reader .at) (c .in-rest .field-0) (c .skip-record .last .self .at)) (i .0) (h .count)),
     )
 
