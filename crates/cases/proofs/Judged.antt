@@ -114,8 +114,8 @@ module _ (p : Plan) (own : Own p) (given : (k : ℕ) → k < 4 → Granted p k k
     together-few [] s = omega (arith, ones-none, ones-mono (bitAnd 0 mask) 0 (λ k h. in-and 0 mask k h .0))
     together-few (w ∷ ws) s =
         let both = ones-either (bitAnd (bitOr (held p w) (heldBy p ws)) mask) (bitAnd (held p w) mask) (bitAnd (heldBy p ws) mask) (λ k h.
-            let x = in-and (bitOr (held p w) (heldBy p ws)) mask k h in
-            elim (in-or (held p w) (heldBy p ws) k (x .0)) [ inl y ↦ inl (in-both (held p w) mask k y (x .1)) | inr y ↦ inr (in-both (heldBy p ws) mask k y (x .1)) ]) in
+        let x = in-and (bitOr (held p w) (heldBy p ws)) mask k h in
+        elim (in-or (held p w) (heldBy p ws) k (x .0)) [ inl y ↦ inl (in-both (held p w) mask k y (x .1)) | inr y ↦ inr (in-both (heldBy p ws) mask k y (x .1)) ]) in
         omega (arith, both, held-few w mask, limited w (s .0), together-few ws (s .1))
 
     pub many : (u : ℕ) → Within u mask → (ws : List ℕ) → AllSatisfy p ws → Within u (heldBy p ws) → ones u ≤ length ws
@@ -155,14 +155,18 @@ named : (p : Plan) (i : ℕ) (ws : List ℕ) → AllSatisfy p ws → length ws <
     → ((k : ℕ) → k < i → Enforces p k) → ((us : List ℕ) → AllSatisfy p us → Covered p i us → length ws ≤ length us)
     → (w : Witness) → Witnessed p w → (w .policy ≡ i) × (w .users ≡ length ws)
 named p i ws s f c below least w h = elim (cases-lt (w .policy) i) [
-    inl l ↦ absurd (below (w .policy) l (witnesses w) (h .satisfies) (witnesses w) (all-of p (witnesses w)) (omega (arith, h .count, h .few)) (h .covered))
+  | inl l ↦ absurd (below (w .policy) l (witnesses w) (h .satisfies) (witnesses w) (all-of p (witnesses w)) (omega (arith, h .count, h .few)) (h .covered))
   | inr g ↦ elim (cases-lt i (w .policy)) [
-        inl l ↦ absurd (h .lowest i l ws s ws (all-of p ws) f c)
-      | inr g2 ↦
-          let e : w .policy ≡ i = omega arith in
-          (e, (let a = h .fewest ws s ws (all-of p ws) (subst (λ x. Covered p x ws) (sym e) c) in
-               let b = least (witnesses w) (h .satisfies) (subst (λ x. Covered p x (witnesses w)) e (h .covered)) in
-               omega (arith, h .count))) ] ]
+    | inl l ↦ absurd (h .lowest i l ws s ws (all-of p ws) f c)
+    | inr g2 ↦
+        let e : w .policy ≡ i = omega arith in (
+          e,
+          (let a = h .fewest ws s ws (all-of p ws) (subst (λ x. Covered p x ws) (sym e) c) in
+              let b = least (witnesses w) (h .satisfies) (subst (λ x. Covered p x (witnesses w)) e (h .covered)) in
+              omega (arith, h .count)),
+        )
+  ]
+]
 
 -- ---- the four plans
 
@@ -208,7 +212,7 @@ shared xs p g s q m = record {
   alone = λ a b h n. stays (subst (λ ps. Reaches ps a b) s (m .senior-only a b h)) n;
   two = policies-counted xs p m ∙ ap length q;
   zeroth = policy-is xs p m 0 (omega (arith, ap length q)) ∙ ap (λ ps. getD ps 0 (record { permissions = 0; least = 0 })) q;
-  first = policy-is xs p m 1 (omega (arith, ap length q)) ∙ ap (λ ps. getD ps 1 (record { permissions = 0; least = 0 })) q
+  first = policy-is xs p m 1 (omega (arith, ap length q)) ∙ ap (λ ps. getD ps 1 (record { permissions = 0; least = 0 })) q;
 }
 
 module _ (p : Plan) (o : Shared p) where
@@ -232,9 +236,10 @@ module _ (p : Plan) (o : Shared p) where
   user-breaks : Satisfies p 3 → Breachable p × ((w : Witness) → Witnessed p w → (w .policy ≡ 0) × (w .users ≡ 1))
   user-breaks s =
       let c = covered-zeroth (3 ∷ []) (user-3 p (o .own) (o .given) (o .itself′) (o .alone)) in
-      let f : 1 < policyAt p 0 .least = subst (λ (q : Policy). 1 < q .least) (sym (o .zeroth)) (lit< tt) in
-      (breachable p 0 (3 ∷ []) (omega (arith, o .two)) (s, tt) f c,
-       named p 0 (3 ∷ []) (s, tt) f c (λ k l. absurd (omega arith)) (λ us _ h. somebody us h))
+      let f : 1 < policyAt p 0 .least = subst (λ (q : Policy). 1 < q .least) (sym (o .zeroth)) (lit< tt) in (
+        breachable p 0 (3 ∷ []) (omega (arith, o .two)) (s, tt) f c,
+        named p 0 (3 ∷ []) (s, tt) f c (λ k l. absurd (omega arith)) (λ us _ h. somebody us h),
+      )
 
   module _ (mask : ℕ) (limited : (w : ℕ) → Satisfies p w → ones (bitAnd (authorised p w) mask) < 2) where
     enforces-zeroth : Within 3 mask → Enforces p 0
@@ -267,18 +272,19 @@ module _ (roles limit : ℕ) (p : Plan) (m : Means (constrained roles limit) p) 
   satisfied w z f i l =
       let e : 0 ≡ i = omega (arith, one) in
       subst (λ x. ones (bitAnd (authorised p w) (constraintAt p x .roles)) < constraintAt p x .limit) e
-        (subst (λ (c : Constraint). ones (bitAnd (authorised p w) (c .roles)) < c .limit) (sym only)
-          (omega (arith, masked-few p (parts .own) (parts .given) (parts .itself′) (parts .alone) w roles z)))
+      (subst (λ (c : Constraint). ones (bitAnd (authorised p w) (c .roles)) < c .limit) (sym only)
+      (omega (arith, masked-few p (parts .own) (parts .given) (parts .itself′) (parts .alone) w roles z)))
 
 g-accepted : Accepted planG
 g-accepted p m b =
     let o = shared planG p refl refl refl m in
     let e = b .breach in
     elim (cases-eq (b .policy) 0) [
-      inl z ↦ (subst (Enforces p) (sym z) (enforces-zeroth p o 7 (limited-by 7 2 p m) three-in-seven)) (e .assignment) (e .satisfies) (e .users) (e .among) (e .few) (e .covered)
-    | inr n ↦
-        let f : 1 ≡ b .policy = omega (arith, b .numbered, o .two) in
-        (subst (Enforces p) f (enforces-first p o 7 (limited-by 7 2 p m) (λ k h. h))) (e .assignment) (e .satisfies) (e .users) (e .among) (e .few) (e .covered) ]
+      | inl z ↦ (subst (Enforces p) (sym z) (enforces-zeroth p o 7 (limited-by 7 2 p m) three-in-seven)) (e .assignment) (e .satisfies) (e .users) (e .among) (e .few) (e .covered)
+      | inr n ↦
+          let f : 1 ≡ b .policy = omega (arith, b .numbered, o .two) in
+          (subst (Enforces p) f (enforces-first p o 7 (limited-by 7 2 p m) (λ k h. h))) (e .assignment) (e .satisfies) (e .users) (e .among) (e .few) (e .covered)
+    ]
 
 g-unlimited : Refused unconstrained 0 1
 g-unlimited p m = user-breaks p (shared unconstrained p refl refl refl m) (λ i l. absurd (omega (arith, constraints-counted unconstrained p m)))
@@ -288,19 +294,21 @@ g-other-limit p m = user-breaks p (shared (constrained 7 3) p refl refl refl m) 
 
 such-as′ : Covering (constrained 3 2) 1 (5 ∷ 2 ∷ [])
 such-as′ p m =
-    let o = shared (constrained 3 2) p refl refl refl m in
-    ((satisfied 3 2 p m 5 bit-5-3 (omega (arith, ones-1)), (satisfied 3 2 p m 2 bit-2-3 (omega (arith, ones-2)), tt)),
-     covered-first p o (5 ∷ 2 ∷ []) (users-5-2 p (o .own) (o .given) (o .itself′) (o .alone)))
+    let o = shared (constrained 3 2) p refl refl refl m in (
+      (satisfied 3 2 p m 5 bit-5-3 (omega (arith, ones-1)), (satisfied 3 2 p m 2 bit-2-3 (omega (arith, ones-2)), tt)),
+      covered-first p o (5 ∷ 2 ∷ []) (users-5-2 p (o .own) (o .given) (o .itself′) (o .alone)),
+    )
 
 g-other-set : Refused (constrained 3 2) 1 2
 g-other-set p m =
     let o = shared (constrained 3 2) p refl refl refl m in
     let two = such-as′ p m in
-    let f : 2 < policyAt p 1 .least = subst (λ (q : Policy). 2 < q .least) (sym (o .first)) (lit< tt) in
-    (breachable p 1 (5 ∷ 2 ∷ []) (omega (arith, o .two)) (two .0) f (two .1),
-     named p 1 (5 ∷ 2 ∷ []) (two .0) f (two .1)
-       (λ k l. let z : 0 ≡ k = omega arith in subst (Enforces p) z (enforces-zeroth p o 3 (limited-by 3 2 p m) (λ j h. h)))
-       (λ us s c. let l = many p (o .own) (o .given) (o .itself′) (o .alone) 3 (limited-by 3 2 p m) 3 (λ j h. h) us s (λ k h. whole-first p o us c k (three-in-seven k h)) in omega (arith, ones-3)))
+    let f : 2 < policyAt p 1 .least = subst (λ (q : Policy). 2 < q .least) (sym (o .first)) (lit< tt) in (
+      breachable p 1 (5 ∷ 2 ∷ []) (omega (arith, o .two)) (two .0) f (two .1),
+      named p 1 (5 ∷ 2 ∷ []) (two .0) f (two .1)
+          (λ k l. let z : 0 ≡ k = omega arith in subst (Enforces p) z (enforces-zeroth p o 3 (limited-by 3 2 p m) (λ j h. h)))
+          (λ us s c. let l = many p (o .own) (o .given) (o .itself′) (o .alone) 3 (limited-by 3 2 p m) 3 (λ j h. h) us s (λ k h. whole-first p o us c k (three-in-seven k h)) in omega (arith, ones-3)),
+    )
 
 pub starred : Starred
 starred = record { accepted = g-accepted; unlimited = g-unlimited; other-set = g-other-set; such-as = such-as′; other-limit = g-other-limit }

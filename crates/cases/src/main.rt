@@ -28,7 +28,11 @@ struct Tally {
 impl Tally {
     // Prints a case and counts it.
     fn note(&mut self, rt: &LibcRuntime, case: &Case) -> io::Result<()> {
-        let Case { what, answer, expected } = case;
+        let Case {
+            what,
+            answer,
+            expected,
+        } = case;
         if answer == expected {
             self.right = self.right.saturating_add(1);
             println!(rt, "{what}: {answer}")
@@ -64,40 +68,136 @@ fn last_of(count: u32, addition: Addition) -> u32 {
 
 fn policy_cases() -> [Case; 8] {
     [
-        Case { what: "policy of 16 permissions", answer: alone(Addition::Policy(0xffff, 2)), expected: 0 },
-        Case { what: "policy of 17 permissions", answer: alone(Addition::Policy(0x1ffff, 2)), expected: 5 },
-        Case { what: "8 people for 8 permissions", answer: alone(Addition::Policy(0xff, 8)), expected: 0 },
-        Case { what: "9 people for 9 permissions", answer: alone(Addition::Policy(0x1ff, 9)), expected: 4 },
-        Case { what: "9 people for 17 permissions", answer: alone(Addition::Policy(0x1ffff, 9)), expected: 4 },
-        Case { what: "1 person for 2 permissions", answer: alone(Addition::Policy(3, 1)), expected: 4 },
-        Case { what: "policy 32, the 33rd", answer: last_of(33, Addition::Policy(3, 2)), expected: 6 },
-        Case { what: "policy 31, the 32nd", answer: last_of(32, Addition::Policy(3, 2)), expected: 0 },
+        Case {
+            what: "policy of 16 permissions",
+            answer: alone(Addition::Policy(0xffff, 2)),
+            expected: 0,
+        },
+        Case {
+            what: "policy of 17 permissions",
+            answer: alone(Addition::Policy(0x1ffff, 2)),
+            expected: 5,
+        },
+        Case {
+            what: "8 people for 8 permissions",
+            answer: alone(Addition::Policy(0xff, 8)),
+            expected: 0,
+        },
+        Case {
+            what: "9 people for 9 permissions",
+            answer: alone(Addition::Policy(0x1ff, 9)),
+            expected: 4,
+        },
+        Case {
+            what: "9 people for 17 permissions",
+            answer: alone(Addition::Policy(0x1ffff, 9)),
+            expected: 4,
+        },
+        Case {
+            what: "1 person for 2 permissions",
+            answer: alone(Addition::Policy(3, 1)),
+            expected: 4,
+        },
+        Case {
+            what: "policy 32, the 33rd",
+            answer: last_of(33, Addition::Policy(3, 2)),
+            expected: 6,
+        },
+        Case {
+            what: "policy 31, the 32nd",
+            answer: last_of(32, Addition::Policy(3, 2)),
+            expected: 0,
+        },
     ]
 }
 
 fn constraint_cases() -> [Case; 8] {
     [
-        Case { what: "limit 1 for 3 roles", answer: alone(Addition::Constraint(7, 1)), expected: 4 },
-        Case { what: "limit 2 for 3 roles", answer: alone(Addition::Constraint(7, 2)), expected: 0 },
-        Case { what: "limit 3 for 3 roles", answer: alone(Addition::Constraint(7, 3)), expected: 0 },
-        Case { what: "limit 4 for 3 roles", answer: alone(Addition::Constraint(7, 4)), expected: 4 },
-        Case { what: "limit 64 for 64 roles", answer: alone(Addition::Constraint(u64::MAX, 64)), expected: 0 },
-        Case { what: "limit 4294967295 for 64 roles", answer: alone(Addition::Constraint(u64::MAX, u32::MAX)), expected: 4 },
-        Case { what: "constraint 63, the 64th", answer: last_of(64, Addition::Constraint(3, 2)), expected: 0 },
-        Case { what: "constraint 64, the 65th", answer: last_of(65, Addition::Constraint(3, 2)), expected: 6 },
+        Case {
+            what: "limit 1 for 3 roles",
+            answer: alone(Addition::Constraint(7, 1)),
+            expected: 4,
+        },
+        Case {
+            what: "limit 2 for 3 roles",
+            answer: alone(Addition::Constraint(7, 2)),
+            expected: 0,
+        },
+        Case {
+            what: "limit 3 for 3 roles",
+            answer: alone(Addition::Constraint(7, 3)),
+            expected: 0,
+        },
+        Case {
+            what: "limit 4 for 3 roles",
+            answer: alone(Addition::Constraint(7, 4)),
+            expected: 4,
+        },
+        Case {
+            what: "limit 64 for 64 roles",
+            answer: alone(Addition::Constraint(u64::MAX, 64)),
+            expected: 0,
+        },
+        Case {
+            what: "limit 4294967295 for 64 roles",
+            answer: alone(Addition::Constraint(u64::MAX, u32::MAX)),
+            expected: 4,
+        },
+        Case {
+            what: "constraint 63, the 64th",
+            answer: last_of(64, Addition::Constraint(3, 2)),
+            expected: 0,
+        },
+        Case {
+            what: "constraint 64, the 65th",
+            answer: last_of(65, Addition::Constraint(3, 2)),
+            expected: 6,
+        },
     ]
 }
 
 fn number_cases() -> [Case; 8] {
     [
-        Case { what: "role 63 senior to role 0", answer: alone(Addition::Senior(63, 0)), expected: 0 },
-        Case { what: "role 64 senior to role 0", answer: alone(Addition::Senior(64, 0)), expected: 1 },
-        Case { what: "role 0 senior to role 4294967295", answer: alone(Addition::Senior(0, u32::MAX)), expected: 1 },
-        Case { what: "role 5 senior to itself", answer: alone(Addition::Senior(5, 5)), expected: 0 },
-        Case { what: "permission 63 granted to role 63", answer: alone(Addition::Grant(63, 63)), expected: 0 },
-        Case { what: "permission 64 granted to role 63", answer: alone(Addition::Grant(63, 64)), expected: 2 },
-        Case { what: "permission 64 granted to role 64", answer: alone(Addition::Grant(64, 64)), expected: 1 },
-        Case { what: "permission 4294967295 granted to role 0", answer: alone(Addition::Grant(0, u32::MAX)), expected: 2 },
+        Case {
+            what: "role 63 senior to role 0",
+            answer: alone(Addition::Senior(63, 0)),
+            expected: 0,
+        },
+        Case {
+            what: "role 64 senior to role 0",
+            answer: alone(Addition::Senior(64, 0)),
+            expected: 1,
+        },
+        Case {
+            what: "role 0 senior to role 4294967295",
+            answer: alone(Addition::Senior(0, u32::MAX)),
+            expected: 1,
+        },
+        Case {
+            what: "role 5 senior to itself",
+            answer: alone(Addition::Senior(5, 5)),
+            expected: 0,
+        },
+        Case {
+            what: "permission 63 granted to role 63",
+            answer: alone(Addition::Grant(63, 63)),
+            expected: 0,
+        },
+        Case {
+            what: "permission 64 granted to role 63",
+            answer: alone(Addition::Grant(63, 64)),
+            expected: 2,
+        },
+        Case {
+            what: "permission 64 granted to role 64",
+            answer: alone(Addition::Grant(64, 64)),
+            expected: 1,
+        },
+        Case {
+            what: "permission 4294967295 granted to role 0",
+            answer: alone(Addition::Grant(0, u32::MAX)),
+            expected: 2,
+        },
     ]
 }
 
@@ -111,16 +211,35 @@ fn after(first: (u32, u32), second: (u32, u32), third: (u32, u32)) -> u32 {
 
 fn order_cases() -> [Case; 4] {
     [
-        Case { what: "a cycle of two", answer: after((0, 1), (0, 1), (1, 0)), expected: 3 },
-        Case { what: "a cycle of three", answer: after((0, 1), (1, 2), (2, 0)), expected: 3 },
-        Case { what: "a pair that follows already", answer: after((0, 1), (1, 2), (0, 2)), expected: 0 },
-        Case { what: "a pair named twice", answer: after((0, 1), (1, 2), (0, 1)), expected: 0 },
+        Case {
+            what: "a cycle of two",
+            answer: after((0, 1), (0, 1), (1, 0)),
+            expected: 3,
+        },
+        Case {
+            what: "a cycle of three",
+            answer: after((0, 1), (1, 2), (2, 0)),
+            expected: 3,
+        },
+        Case {
+            what: "a pair that follows already",
+            answer: after((0, 1), (1, 2), (0, 2)),
+            expected: 0,
+        },
+        Case {
+            what: "a pair named twice",
+            answer: after((0, 1), (1, 2), (0, 1)),
+            expected: 0,
+        },
     ]
 }
 
 // An addition that is not answered yet.
 fn asked(addition: Addition) -> Entry {
-    Entry { addition, answer: Ok(()) }
+    Entry {
+        addition,
+        answer: Ok(()),
+    }
 }
 
 // Eight permissions take eight people, role 0 has two of them, and nobody may have two roles.
@@ -149,13 +268,29 @@ fn witness_cases() -> [Case; 3] {
         Ok(()) => 0,
         Err(fault) => fault.number(),
     };
-    let users = if witness.users < 100 { witness.users as u32 } else { 100 };
+    let users = if witness.users < 100 {
+        witness.users as u32
+    } else {
+        100
+    };
     let policies = place.plan().policy_count();
     let kept = if policies < 100 { policies as u32 } else { 100 };
     [
-        Case { what: "a plan that seven users break", answer, expected: 7 },
-        Case { what: "users of its witness", answer: users, expected: 7 },
-        Case { what: "policies in the place after it", answer: kept, expected: 0 },
+        Case {
+            what: "a plan that seven users break",
+            answer,
+            expected: 7,
+        },
+        Case {
+            what: "users of its witness",
+            answer: users,
+            expected: 7,
+        },
+        Case {
+            what: "policies in the place after it",
+            answer: kept,
+            expected: 0,
+        },
     ]
 }
 

@@ -6,6 +6,7 @@ use flag_table::FlagTableRegister;
 use generator::Generator;
 use model::Model;
 use register::Register;
+use register::lent::LentRegister;
 use register::seats::SeatLayer;
 use register::seats::SeatLayerRegister;
 use std::alloc::AllocError;
@@ -19,7 +20,7 @@ mod model;
 mod trial;
 
 // The calls of each run.
-const CALLS: u32 = 400;
+const CALLS: u32 = 1000;
 
 // The seat numbers of a layer: few for some roles, many for others, some above 4,096.
 fn seats(random: &mut Generator) -> [u32; 64] {
@@ -67,35 +68,46 @@ fn bare(heap: Global, words: usize, random: &mut Generator) -> Result<Tally, All
     Ok(tally)
 }
 
-// The same under one layer of seats, which empties it.
-fn seated(heap: Global, words: usize, random: &mut Generator) -> Result<Tally, AllocError> {
-    let mut table = table(heap, words, random)?;
-    let before = spare(heap, table.as_slice())?;
-    let mut model = Model::of_rows(heap, table.as_slice())?;
+// A register under one layer of seats, which empties it.
+fn under_one<R: Register>(register: &mut R, model: &mut Model, random: &mut Generator) -> Tally {
     let own = seats(random);
     model.clear();
     model.limit(&own);
-    let mut layer = SeatLayer::new(BitRows::new(table.as_mut_slice()), own);
-    let mut tally = compare(&mut layer, &mut model, random, CALLS);
-    drop(layer.into_below());
-    tally.table(&model, table.as_slice());
-    tally.spare(before.as_slice(), table.as_slice());
-    Ok(tally)
+    let mut layer = SeatLayer::new(register, own);
+    let tally = compare(&mut layer, model, random, CALLS);
+    let _ = layer.into_below();
+    tally
 }
 
-// The same under two.
-fn twice_seated(heap: Global, words: usize, random: &mut Generator) -> Result<Tally, AllocError> {
-    let mut table = table(heap, words, random)?;
-    let before = spare(heap, table.as_slice())?;
-    let mut model = Model::of_rows(heap, table.as_slice())?;
+// A register under two.
+fn under_two<R: Register>(register: &mut R, model: &mut Model, random: &mut Generator) -> Tally {
     let (lower, upper) = (seats(random), seats(random));
     model.clear();
     model.limit(&lower);
     model.limit(&upper);
-    let layer = SeatLayer::new(BitRows::new(table.as_mut_slice()), lower);
-    let mut layers = SeatLayer::new(layer, upper);
-    let mut tally = compare(&mut layers, &mut model, random, CALLS);
-    drop(layers.into_below().into_below());
+    let mut layers = SeatLayer::new(SeatLayer::new(register, lower), upper);
+    let tally = compare(&mut layers, model, random, CALLS);
+    let _ = layers.into_below().into_below();
+    tally
+}
+
+// Bit rows of so many words under one layer of seats, or under two.
+fn seated(
+    heap: Global,
+    words: usize,
+    layers: u32,
+    random: &mut Generator,
+) -> Result<Tally, AllocError> {
+    let mut table = table(heap, words, random)?;
+    let before = spare(heap, table.as_slice())?;
+    let mut model = Model::of_rows(heap, table.as_slice())?;
+    let mut rows = BitRows::new(table.as_mut_slice());
+    let mut tally = if layers == 1 {
+        under_one(&mut rows, &mut model, random)
+    } else {
+        under_two(&mut rows, &mut model, random)
+    };
+    drop(rows);
     tally.table(&model, table.as_slice());
     tally.spare(before.as_slice(), table.as_slice());
     Ok(tally)
@@ -128,8 +140,18 @@ fn main(rt: LibcRuntime) -> io::Result<()> {
     let mut random = Generator::new(20261118);
     for words in [0usize, 1, 63, 4096, 5000] {
         report(&rt, "bit rows", words, &bare(heap, words, &mut random)?)?;
-        report(&rt, "one layer of seats", words, &seated(heap, words, &mut random)?)?;
-        report(&rt, "two layers of seats", words, &twice_seated(heap, words, &mut random)?)?;
+        report(
+            &rt,
+            "one layer of seats",
+            words,
+            &seated(heap, words, 1, &mut random)?,
+        )?;
+        report(
+            &rt,
+            "two layers of seats",
+            words,
+            &seated(heap, words, 2, &mut random)?,
+        )?;
     }
     for users in [0usize, 1, 5, 70] {
         report(&rt, "flags", users, &flags(heap, users, &mut random)?)?;

@@ -15,7 +15,10 @@ impl Model {
         for word in table.iter().take(4096) {
             rows.push(*word)?;
         }
-        Ok(Model { rows, seats: [4096; 64] })
+        Ok(Model {
+            rows,
+            seats: [4096; 64],
+        })
     }
 
     // So many users without roles.
@@ -24,7 +27,10 @@ impl Model {
         for _ in 0..users {
             rows.push(0u64)?;
         }
-        Ok(Model { rows, seats: [4096; 64] })
+        Ok(Model {
+            rows,
+            seats: [4096; 64],
+        })
     }
 
     // Each role has at most so many seats.

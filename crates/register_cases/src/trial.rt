@@ -44,13 +44,7 @@ impl Tally {
 fn number(answer: Result<(), RegisterFault>, role: u32) -> u32 {
     match answer {
         Ok(()) => 0,
-        Err(RegisterFault::SeatsFull(full)) => {
-            if full == role {
-                52
-            } else {
-                1000
-            }
-        }
+        Err(RegisterFault::SeatsFull(full)) => { if full == role { 52 } else { 1000 } }
         Err(fault) => fault.number(),
     }
 }
@@ -98,7 +92,12 @@ fn counts<R: Register>(register: &R, model: &Model) -> bool {
 }
 
 // Performs random calls, and compares each answer, every count and every row after it.
-pub(crate) fn compare<R: Register>(register: &mut R, model: &mut Model, random: &mut Generator, calls: u32) -> Tally {
+pub(crate) fn compare<R: Register>(
+    register: &mut R,
+    model: &mut Model,
+    random: &mut Generator,
+    calls: u32,
+) -> Tally {
     let mut tally = Tally { right: 0, wrong: 0 };
     for _ in 0..calls {
         tally.note(call(register, model, random));
