@@ -47,7 +47,7 @@ impl<'a> BitRows<'a> {
         }
     }
 
-    // Takes all pairs of one user out.
+    // Takes all pairs of one user out, and counts them off, so that the counts are right between two rows too.
     fn empty_row(&mut self, user: usize)
         requires { ⌜ user < length (rowsOf (now (now self .words))) ⌝ }
         ensures words { λ _. ⌜ now (now (self .exit) .words) ≡ set (now (now (self .entry) .words)) user 0 ⌝ }

@@ -25,6 +25,14 @@ impl<R: Register> SeatLayer<R> {
         SeatLayer { below, own }
     }
 
+    // Lifts the layer off again; the register below stays as it is.
+    pub fn into_below(self) -> R
+        ensures { λ r. ⌜ r ≡ self .below ⌝ }
+    {
+        let SeatLayer { below, own: _ } = self;
+        below
+    }
+
     // Whether the layer's own seats refuse the pair.
     fn turns_away(&self, user: u32, role: u32) -> bool
         ensures { λ r. ⌜ r ≡ turnsAway (now (self .entry) .own) (R·Register .model (now (self .entry) .below)) user role ⌝ }
@@ -37,16 +45,6 @@ impl<R: Register> SeatLayer<R> {
         }
         let own = self.own[role as usize];
         own.min(4096) <= self.below.members(role)
-    }
-}
-
-impl<R> SeatLayer<R> {
-    // Lifts the layer off again; the register below stays as it is.
-    pub fn into_below(self) -> R
-        ensures { λ r. ⌜ r ≡ self .below ⌝ }
-    {
-        let SeatLayer { below, own: _ } = self;
-        below
     }
 }
 
