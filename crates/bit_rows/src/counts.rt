@@ -7,14 +7,14 @@ ghost use Rattle.terms.specs.Sets.{bit};
 ghost use Rattle.bit_rows.specs.Table.{rowsOf};
 
 // The words of a table that are rows.
-pub fn rows_of(table: &[u64]) -> &[u64]
+pub(crate) fn rows_of(table: &[u64]) -> &[u64]
     ensures { λ r. ⌜ now r ≡ rowsOf (now (table .entry)) ⌝ }
 {
     &table[..table.len().min(4096)]
 }
 
 // The number of pairs.
-pub fn count_pairs(rows: &[u64]) -> u32
+pub(crate) fn count_pairs(rows: &[u64]) -> u32
     requires { ⌜ length (now rows) ≤ 4096 ⌝ }
     ensures count { λ r. ⌜ r ≡ pairs (now (rows .entry)) ⌝ }
     ensures most { λ r. ⌜ r ≤ 64 * length (now (rows .entry)) ⌝ }
@@ -28,7 +28,7 @@ pub fn count_pairs(rows: &[u64]) -> u32
 }
 
 // The number of members of one role.
-pub fn count_members(rows: &[u64], role: u32) -> u32
+pub(crate) fn count_members(rows: &[u64], role: u32) -> u32
     requires { ⌜ length (now rows) ≤ 4096 ⌝ ∗ ⌜ role < 64 ⌝ }
     ensures { λ r. ⌜ r ≡ having role (now (rows .entry)) ⌝ }
 {
@@ -40,7 +40,7 @@ pub fn count_members(rows: &[u64], role: u32) -> u32
 }
 
 // The number of members of each role.
-pub fn count_each_role(rows: &[u64]) -> [u32; 64]
+pub(crate) fn count_each_role(rows: &[u64]) -> [u32; 64]
     requires { ⌜ length (now rows) ≤ 4096 ⌝ }
     ensures { λ r. ⌜ ((k : ℕ) → k < 64 → getD r k 0 ≡ having k (now (rows .entry))) ⌝ }
 {
@@ -52,7 +52,7 @@ pub fn count_each_role(rows: &[u64]) -> [u32; 64]
 }
 
 // The numbers of members without those of one row, which are counted in them.
-pub fn without_row(members: [u32; 64], row: u64) -> [u32; 64]
+pub(crate) fn without_row(members: [u32; 64], row: u64) -> [u32; 64]
     requires { ⌜ ((k : ℕ) → k < 64 → bit row k ≤ getD members k 0) ⌝ }
     ensures { λ r. ⌜ ((k : ℕ) → k < 64 → getD r k 0 + bit row k ≡ getD members k 0) ⌝ }
 {

@@ -31,7 +31,7 @@ fn most(plan: &Plan, wanted: PermissionSet) -> u32
 }
 
 // Whether some limit leaves a user with the roles `word` too few roles to come to hold `wanted`.
-pub fn beyond(
+pub(crate) fn beyond(
     plan: &Plan,
     outside: &[PermissionSet; 64],
     word: RoleSet,
@@ -103,7 +103,7 @@ fn name_more(
 }
 
 // Whether some limits together do. Those with the least room for the roles that they name are taken first.
-pub fn together(plan: &Plan, word: RoleSet, wanted: PermissionSet) -> bool
+pub(crate) fn together(plan: &Plan, word: RoleSet, wanted: PermissionSet) -> bool
     ensures { λ r. ⌜ (r ≡ true → (w : ℕ) → Holder (now (plan .entry)) word wanted w → ⊥) ⌝ }
 {
     let open = difference(wanted, plan.held(word));

@@ -22,7 +22,7 @@ fn gains(plan: &Plan) -> [PermissionSet; 64]
 }
 
 // What is granted to roles that are not in the set.
-pub fn elsewhere(plan: &Plan, roles: RoleSet) -> PermissionSet
+pub(crate) fn elsewhere(plan: &Plan, roles: RoleSet) -> PermissionSet
     ensures { λ r. ⌜ ((a k : ℕ) → Granted (now (plan .entry)) a k → In a roles ⊎ In k r) ⌝ }
 {
     let mut all: u64 = 0;

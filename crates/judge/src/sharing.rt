@@ -133,7 +133,7 @@ fn barren(survey: &Survey, memo: &mut Memo, wanted: PermissionSet) -> bool
 }
 
 // The fewest users, if fewer than `below`, who satisfy the constraints and together hold all of `wanted`.
-pub fn fewest_users(
+pub(crate) fn fewest_users(
     survey: &Survey,
     memo: &mut Memo,
     wanted: PermissionSet,

@@ -11,7 +11,7 @@ use terms::sets::PermissionSet;
 
 impl<'a> Memo<'a> {
     // A memo over three tables of one length.
-    pub fn over(
+    pub(crate) fn over(
         sets: &'a mut [PermissionSet],
         single: &'a mut [Single],
         short: &'a mut [u8],
@@ -30,7 +30,7 @@ impl<'a> Memo<'a> {
     }
 
     // What slot i knows of one user and the set.
-    pub fn single(&self, i: usize, held: PermissionSet) -> Single
+    pub(crate) fn single(&self, i: usize, held: PermissionSet) -> Single
         ensures { λ r. ⌜ ((p : Plan) → MemoRight p (now (self .entry)) → SingleRight p held r) ⌝ }
     {
         if i >= self.sets.len() {
@@ -43,7 +43,7 @@ impl<'a> Memo<'a> {
     }
 
     // A number of users of whom slot i knows that they cannot hold the set together.
-    pub fn shortage(&self, i: usize, held: PermissionSet) -> u8
+    pub(crate) fn shortage(&self, i: usize, held: PermissionSet) -> u8
         ensures { λ r. ⌜ ((p : Plan) → MemoRight p (now (self .entry)) → ShortRight p held r) ⌝ }
     {
         if i >= self.sets.len() {
@@ -68,7 +68,7 @@ impl<'a> Memo<'a> {
     }
 
     // Notes what is known of one user and the set.
-    pub fn note_single(&mut self, i: usize, held: PermissionSet, single: Single)
+    pub(crate) fn note_single(&mut self, i: usize, held: PermissionSet, single: Single)
         ensures { λ _. ⌜ ((p : Plan) → MemoRight p (now (self .entry)) → SingleRight p held single → MemoRight p (now (self .exit))) ⌝ }
     {
         let short = self.shortage(i, held);
@@ -76,7 +76,7 @@ impl<'a> Memo<'a> {
     }
 
     // Notes a number of users who cannot hold the set together.
-    pub fn note_short(&mut self, i: usize, held: PermissionSet, users: u8)
+    pub(crate) fn note_short(&mut self, i: usize, held: PermissionSet, users: u8)
         ensures { λ _. ⌜ ((p : Plan) → MemoRight p (now (self .entry)) → ShortRight p held users → MemoRight p (now (self .exit))) ⌝ }
     {
         let single = self.single(i, held);

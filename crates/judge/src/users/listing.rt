@@ -6,7 +6,7 @@ use super::Users;
 use terms::sets::RoleSet;
 
 impl Users {
-    pub fn none() -> Users
+    pub(crate) fn none() -> Users
         ensures { λ r. ⌜ r .count ≡ 0 ⌝ }
     {
         Users {
@@ -16,7 +16,7 @@ impl Users {
     }
 
     // The same users and one more.
-    pub fn with(self, word: RoleSet) -> Users
+    pub(crate) fn with(self, word: RoleSet) -> Users
         requires { ⌜ self .count < 7 ⌝ }
         ensures list { λ r. ⌜ listed r ≡ listed self ++ (word ∷ []) ⌝ }
         ensures count { λ r. ⌜ r .count ≡ self .count + 1 ⌝ }

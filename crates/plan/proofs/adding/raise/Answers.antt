@@ -15,6 +15,6 @@ returns c a =
     elim (cases-lt a 64) [
       | inl h ↦ c .loop-row .inv .0 a (omega arith)
       | inr h ↦
-          let past : getD (c .args .rows .now) a 0 ≡ 0 = getD-past _ a 0 (omega arith) in
+          let past : getD (c .args .rows .now) a 0 ≡ 0 = getD-past (c .args .rows .now) a 0 (omega arith) in
           c .loop-row .inv .1 a (omega arith) ∙ past ∙ sym (raised-zero (c .args .senior) (c .args .gained)) ∙ ap (raised (c .args .senior) (c .args .gained)) (sym past)
     ]
