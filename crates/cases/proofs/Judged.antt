@@ -7,26 +7,29 @@ use native.Mathlib.Nat.{le-trans}
 use native.Mathlib.Omega.{arith}
 use lib.Bits.{bitAnd, bitOr}
 use lib.Count.{ones}
-use lib.Dec.{lit<}
+use lib.Dec.{lit<, eqb, ltb, leb}
+use mathlib.Core.Bool.{false, _||_}
+use Rattle.std.specs.declared.option.Option.the-variants.{None}
 use lib.ListN.{length, getD, take}
 use Rattle.std.proofs.shelf.Lists.{getD-take}
-use Rattle.std.proofs.shelf.Tests.{cases-lt, cases-eq}
+use Rattle.std.proofs.shelf.Tests.{cases-lt, cases-eq, ne-eqb, lt-leb}
 use Rattle.terms.specs.Sets.{bit, In, Within}
 use Rattle.terms.proofs.Bits.{bit-high, none-in, in-and, in-both, in-or, in-or-l, in-or-r}
 use Rattle.terms.proofs.Sizes.{ones-none, ones-mono, ones-either}
 use Rattle.plan.specs.Authority.{Senior, Granted, authorised, held, policyCount, policyAt, constraintCount, constraintAt, Satisfies, AllSatisfy, heldBy}
 use Rattle.plan.specs.Enforcing.{Covered, Breachable, Breach, Enforces}
-use Rattle.plan.specs.History.{Means, Reaches, itself, step, Listed, policies, constraints, grants, seniors}
+use Rattle.plan.specs.History.{Means, rows, Reaches, itself, step, Listed, policies, constraints, grants, seniors}
 use Rattle.plan.specs.declared.Plan.{Plan}
 use Rattle.plan.specs.declared.Policy.{Policy}
 use Rattle.plan.specs.declared.Constraint.{Constraint}
 use Rattle.plan.specs.declared.Addition.{Addition}
+use Rattle.plan.specs.declared.Addition.the-variants as add
 use Rattle.plan.proofs.Histories.{policies-counted, constraints-counted}
 use Rattle.plan.proofs.Holdings.{authorised-exactly, held-exactly}
 use Rattle.judge.specs.Judging.{Witnessed, witnesses}
 use Rattle.judge.specs.declared.Witness.{Witness}
 use Rattle.judge.proofs.Judgements.{some-satisfy, all-of}
-use Rattle.cases.specs.Starred.{unconstrained, constrained, planG, Accepted, Refused, Covering, Starred}
+use Rattle.cases.specs.Starred.{unconstrained, constrained, planG, Taken, Accepted, Refused, Covering, Starred}
 
 -- ---- numbers that are written out
 
@@ -310,5 +313,40 @@ g-other-set p m =
           (λ us s c. let l = many p (o .own) (o .given) (o .itself′) (o .alone) 3 (limited-by 3 2 p m) 3 (λ j h. h) us s (λ k h. whole-first p o us c k (three-in-seven k h)) in omega (arith, ones-3)),
     )
 
+-- ---- the additions are accepted
+
+-- without pairs no chain leads anywhere
+nowhere : {a b : ℕ} → Reaches [] a b → a ≡ b
+nowhere (itself l) = refl
+nowhere (step l h r) = absurd h
+
+none-above : Reaches [] 0 3 → ⊥
+none-above r = let e = nowhere r in absurd (omega arith)
+
+module _ (p : Plan) where
+  no-cycle : (xs : List Addition) → Means xs p → seniors xs ≡ [] → rows p (add.Senior 3 0) ≡ None
+  no-cycle xs m e = rw (ne-eqb (bit (getD (p .juniors) 0 0) 3) 1 (λ h. none-above (subst (λ ps. Reaches ps 0 3) e (m .senior-only 0 3 h)))) refl
+
+  policy-taken : (xs : List Addition) → Means xs p → (u k n : ℕ) → ones u ≡ n → length (policies xs) < 32 → (ltb k 2 || ltb n k || ltb 8 k) ≡ false → ltb 16 n ≡ false → rows p (add.Policy u k) ≡ None
+  policy-taken xs m u k n e few a b =
+      let c : leb 32 (p .«policy_count») ≡ false = lt-leb 32 (p .«policy_count») (omega (arith, policies-counted xs p m)) in
+      rw (e, a, b, c) refl
+
+  constraint-taken : (xs : List Addition) → Means xs p → (u k n : ℕ) → ones u ≡ n → length (constraints xs) < 64 → (ltb k 2 || ltb n k) ≡ false → rows p (add.Constraint u k) ≡ None
+  constraint-taken xs m u k n e few a =
+      let c : leb 64 (p .«constraint_count») ≡ false = lt-leb 64 (p .«constraint_count») (omega (arith, constraints-counted xs p m)) in
+      rw (e, a, c) refl
+
+taken-with : (roles limit size : ℕ) → ones roles ≡ size → (ltb limit 2 || ltb size limit) ≡ false → Taken (constrained roles limit)
+taken-with roles limit size e a zero l p m = refl
+taken-with roles limit size e a (suc zero) l p m = refl
+taken-with roles limit size e a (suc (suc zero)) l p m = refl
+taken-with roles limit size e a (suc (suc (suc zero))) l p m = refl
+taken-with roles limit size e a (suc (suc (suc (suc zero)))) l p m = no-cycle p _ m refl
+taken-with roles limit size e a (suc (suc (suc (suc (suc zero))))) l p m = policy-taken p _ m 3 2 2 ones-3 (lit< tt) refl refl
+taken-with roles limit size e a (suc (suc (suc (suc (suc (suc zero)))))) l p m = policy-taken p _ m 7 3 3 ones-7 (lit< tt) refl refl
+taken-with roles limit size e a (suc (suc (suc (suc (suc (suc (suc zero))))))) l p m = constraint-taken p _ m roles limit size e (lit< tt) a
+taken-with roles limit size e a (suc (suc (suc (suc (suc (suc (suc (suc n)))))))) l p m = absurd (omega arith)
+
 pub starred : Starred
-starred = record { accepted = g-accepted; unlimited = g-unlimited; other-set = g-other-set; such-as = such-as′; other-limit = g-other-limit }
+starred = record { taken-G = taken-with 7 2 3 ones-7 refl; taken-set = taken-with 3 2 2 ones-3 refl; taken-limit = taken-with 7 3 3 ones-7 refl; accepted = g-accepted; unlimited = g-unlimited; other-set = g-other-set; such-as = such-as′; other-limit = g-other-limit }

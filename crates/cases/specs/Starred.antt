@@ -1,10 +1,12 @@
 -- The worked cases of judging, as statements about every plan that means the additions named.
 use mathlib.Core.Path.{_≡_}
 use mathlib.Core.List.{List, [], _∷_, _++_}
-use Prim.Native.Nat.{ℕ}
+use Prim.Native.Nat.{ℕ, _<_}
+use lib.ListN.{length, take, getD}
+use Rattle.std.specs.declared.option.Option.the-variants.{None}
 use Rattle.plan.specs.Authority.{AllSatisfy}
 use Rattle.plan.specs.Enforcing.{Covered, Breachable}
-use Rattle.plan.specs.History.{Means}
+use Rattle.plan.specs.History.{Means, rows}
 use Rattle.plan.specs.declared.Plan.{Plan}
 use Rattle.plan.specs.declared.Addition.{Addition}
 use Rattle.plan.specs.declared.Addition.the-variants.{Senior, Grant, Policy, Constraint}
@@ -23,6 +25,10 @@ constrained roles limit = unconstrained ++ (Constraint roles limit ∷ [])
 abbrev pub planG : List Addition
 planG = constrained 7 2
 
+-- each addition is accepted by every plan that means those before it, so there is such a plan
+abbrev pub Taken : List Addition → Type 0
+Taken xs = (n : ℕ) → n < length xs → (p : Plan) → Means (take n xs) p → rows p (getD xs n (Senior 0 0)) ≡ None
+
 -- judging accepts every plan that means the additions
 abbrev pub Accepted : List Addition → Type 0
 Accepted xs = (p : Plan) → Means xs p → Breachable p → ⊥
@@ -36,6 +42,10 @@ abbrev pub Covering : List Addition → ℕ → List ℕ → Type 0
 Covering xs i ws = (p : Plan) → Means xs p → AllSatisfy p ws × Covered p i ws
 
 pub record Starred : Type 0 where
+  -- the additions of the plans are accepted, those without a constraint among them, which come first
+  pub taken-G : Taken planG
+  pub taken-set : Taken (constrained 3 2)
+  pub taken-limit : Taken (constrained 7 3)
   -- G is accepted
   pub accepted : Accepted planG
   -- without its constraint: policy 0, one user
