@@ -1,0 +1,2 @@
+// The words of scripts.
+pub mod literals;
