@@ -7,6 +7,8 @@ use super::tally::Outcome;
 use judge::JudgeFault;
 use judge::Witness;
 use plan::PlanFault;
+use script::fields::FieldList;
+use script::fields::FieldListDisplay;
 use std::fmt;
 use terms::sets::contains;
 
@@ -58,12 +60,16 @@ pub(crate) impl fmt::Display for Breach as BreachDisplay {
 }
 
 // The answer to a call.
-#[derive(Clone, Copy)]
+#[derive(Drop)]
 pub(crate) enum Answer {
     Accepted,
     Refused(PlanFault),
     Breachable(Breach),
     Set(Members),
+    // the records of a text, with the places of their fields
+    Fields(FieldList),
+    // the first wrong record of a text, counted from 1
+    WrongRecord(usize),
 }
 
 impl Answer {
@@ -72,8 +78,8 @@ impl Answer {
         ensures { λ r. ⌜ r ≡ counted (now (self .entry)) ⌝ }
     {
         match self {
-            Answer::Accepted | Answer::Set(_) => Outcome::Accepted,
-            Answer::Refused(_) | Answer::Breachable(_) => Outcome::Refused,
+            Answer::Accepted | Answer::Set(_) | Answer::Fields(_) => Outcome::Accepted,
+            Answer::Refused(_) | Answer::Breachable(_) | Answer::WrongRecord(_) => Outcome::Refused,
         }
     }
 }
@@ -88,6 +94,8 @@ pub(crate) impl fmt::Display for Answer as AnswerDisplay {
             }
             Answer::Breachable(breach) => write!(f, "{breach}"),
             Answer::Set(members) => write!(f, "{members}"),
+            Answer::Fields(list) => write!(f, "{list}"),
+            Answer::WrongRecord(number) => write!(f, "wrong record {number}"),
         }
     }
 }

@@ -1,6 +1,6 @@
 // The console: reads a script from standard input and performs one call of the service a line.
-use script::MOST_BYTES;
-use script::run;
+use running::MOST_BYTES;
+use running::run;
 use std::io;
 use std::io::Read;
 use std::io::Write;
@@ -9,7 +9,7 @@ mod answers;
 mod calls;
 mod lines;
 mod reading;
-mod script;
+mod running;
 mod state;
 mod tally;
 mod words;

@@ -32,7 +32,7 @@ fn perform_line(
         writeln!(out, "line {number}: not understood")?;
         return Ok(Some(Outcome::NotUnderstood));
     };
-    let answer = state.perform(call)?;
+    let answer = state.perform(heap, call)?;
     out.extend_from_slice(line)?;
     writeln!(out, " -> {answer}")?;
     Ok(Some(answer.outcome()))

@@ -1,6 +1,6 @@
 use Prim.Native.Nat.{_+_, _≤_}
 use lib.ListN.{length}
-use Rattle.console.proofs.script.run.Given as given
+use Rattle.console.proofs.running.run.Given as given
 
 -- each line takes a byte or more of the script, and is at most one call
 abbrev pub Inv-loop-line : given.InvT-loop-line
