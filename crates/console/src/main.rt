@@ -7,12 +7,10 @@ use std::io::Write;
 
 mod answers;
 mod calls;
-mod lines;
 mod reading;
 mod running;
 mod state;
 mod tally;
-mod words;
 
 fn main(rt: LibcRuntime) -> io::Result<()> {
     let heap = rt.alloc();

@@ -1,9 +1,9 @@
 // Calls as they are typed: a name, and words parted by single spaces or a text in quotes.
 use super::calls::Call;
-use super::words::members;
-use super::words::number;
 use plan::Addition;
 use script::literals::unquoted;
+use script::words::members;
+use script::words::number;
 use std::alloc::AllocError;
 use std::alloc::Global;
 use std::str::from_utf8;

@@ -2,12 +2,12 @@
 ghost use Prim.Native.Nat.{_≤_};
 ghost use lib.ListN.{length};
 use super::answers::AnswerDisplay;
-use super::lines::next_line;
 use super::reading::read_call;
 use super::state::State;
 use super::tally::Outcome;
 use super::tally::Totals;
 use super::tally::TotalsDisplay;
+use script::lines::next_line;
 use std::alloc::Global;
 use std::io;
 use std::io::Write;

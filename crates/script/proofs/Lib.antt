@@ -1,2 +1,6 @@
+mod Cutting
 mod Listing
+mod Naming
+mod Numbers
+mod Shown
 mod Spelling

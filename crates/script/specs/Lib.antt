@@ -1,2 +1,5 @@
+pub mod Lines
 pub mod Listing
 pub mod Literals
+pub mod Printing
+pub mod Words

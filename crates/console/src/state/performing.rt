@@ -9,7 +9,6 @@ ghost use Rattle.console.specs.Performed.{Begun, Logged, Judged, Fielded, Perf
 use super::State;
 use crate::answers::Answer;
 use crate::answers::Breach;
-use crate::answers::Members;
 use crate::calls::Call;
 use commission::commission;
 use judge::JudgedPlan;
@@ -18,6 +17,7 @@ use plan::Addition;
 use plan::Entry;
 use plan::Plan;
 use script::fields::list_fields;
+use script::sets::Members;
 use std::alloc::AllocError;
 use std::alloc::Global;
 use terms::sets::RoleSet;
