@@ -1,4 +1,5 @@
 mod Cutting
+mod Entered
 mod Listing
 mod Naming
 mod Numbers

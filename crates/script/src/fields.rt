@@ -1,9 +1,11 @@
 // The fields of a text, record by record.
 ghost use mathlib.Core.Path.{_≡_};
 ghost use mathlib.Core.Bool.{true};
+ghost use Rattle.std.specs.declared.option.Option.the-variants.{Some};
 ghost use Rattle.std.specs.Of.Vec.{vec-items};
 ghost use Rattle.std.specs.Results.{Cases as ByOk};
 ghost use Rattle.std.specs.Vec.{made};
+ghost use Rattle.script.specs.Entries.{entry-text, list-text};
 ghost use Rattle.script.specs.Listing.{ends, Listed, Told};
 use std::alloc::AllocError;
 use std::alloc::Global;
@@ -27,22 +29,42 @@ pub struct FieldList {
     pub places: Vec<Place>,
 }
 
+// A field's place as it is printed: a parenthesis opens before the first of a record and closes after the last.
+#[derive(Clone, Copy)]
+struct Entry {
+    first: bool,
+    place: Place,
+}
+
+impl fmt::Display for Entry as EntryDisplay {
+    ghost shown = { λ e. Some (entry-text (e .first) (e .place .last) (e .place .start) (e .place .end)) };
+
+    fn fmt<W: fmt::Write>(&self, f: &mut fmt::Formatter<W>) -> fmt::Result {
+        let Place { start, end, last } = self.place;
+        match (self.first, last) {
+            (true, true) => write!(f, " ({start}-{end})"),
+            (true, false) => write!(f, " ({start}-{end}"),
+            (false, true) => write!(f, " {start}-{end})"),
+            (false, false) => write!(f, " {start}-{end}"),
+        }
+    }
+}
+
 pub impl fmt::Display for FieldList as FieldListDisplay {
+    ghost shown = { λ l. Some (list-text (l .records) (vec-items (l .places))) };
+
     fn fmt<W: fmt::Write>(&self, f: &mut fmt::Formatter<W>) -> fmt::Result {
         let records = self.records;
         write!(f, "{records} records")?;
+        let places = self.places.as_slice();
         let mut first = true;
-        for place in self.places.iter() {
-            let Place { start, end, last } = *place;
-            if first {
-                write!(f, " ({start}-{end}")?;
-            } else {
-                write!(f, " {start}-{end}")?;
-            }
-            if last {
-                write!(f, ")")?;
-            }
-            first = last;
+        for place in places {
+            let entry = Entry {
+                first,
+                place: *place,
+            };
+            write!(f, "{entry}")?;
+            first = place.last;
         }
         Ok(())
     }
