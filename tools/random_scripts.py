@@ -2,7 +2,7 @@
 """usage: random_scripts.py SEED N FOLDER   writes N random console scripts into FOLDER
 
 The scripts are 0000.txt, 0001.txt and so on. They mix plans that are worth judging with damaged
-lines, numbers at their limits, full tables and odd line ends. Equal arguments give equal scripts.
+lines, texts, numbers at their limits, full tables and odd line ends. Equal arguments give equal scripts.
 Plans to be judged are small, so that reference.py judges each script within seconds.
 """
 import os
@@ -16,7 +16,7 @@ TOO_LARGE = ["4294967296", "4294967297", "9999999999", "18446744073709551615",
 NO_NUMBERS = ["", "00", "01", "007", "-1", "+1", "1.0", "1e3", "0x1", "a", "1a", "{0}", "1,2", "٣",
               "½", "#", "1#"]
 NAMES = ["new", "senior", "grant", "policy", "constraint", "authorised-roles",
-         "held-permissions", "judge"]
+         "held-permissions", "judge", "fields"]
 NO_NAMES = ["New", "JUDGE", "judgement", "seniors", "grants", "policies", "constraints",
             "authorised", "authorized-roles", "held", "roles", "held-permission", "quit", "help"]
 
@@ -150,7 +150,7 @@ def edge_numbers(rng):
     lines = []
     for _ in range(rng.randint(10, 60)):
         name = rng.choice(NAMES)
-        count = {"new": 0, "judge": 0, "senior": 2, "grant": 2}.get(name, rng.randint(0, 5))
+        count = {"new": 0, "judge": 0, "fields": 1, "senior": 2, "grant": 2}.get(name, rng.randint(0, 5))
         numbers = [rng.choice(EDGES) if rng.random() < 0.5 else rng.randrange(66)
                    for _ in range(count)]
         if numbers and rng.random() < 0.1:
@@ -172,6 +172,63 @@ def rubbish(rng):
             words.append(rng.choice([str(rng.randrange(66)), str(rng.choice(EDGES)),
                                      rng.choice(TOO_LARGE), rng.choice(NO_NUMBERS)]))
         lines.append(join(*words))
+    return lines
+
+
+def typed(rng, text):
+    """A text in quotes, each byte as it is or escaped; now and then as it may not be typed."""
+    short = {9: "\\t", 10: "\\n", 13: "\\r", 34: '\\"', 92: "\\\\"}
+    always = rng.random() < 0.1
+    line = ""
+    for byte in text:
+        if byte in short and rng.random() < 0.95:
+            line += short[byte]
+        elif byte in short or not 32 <= byte <= 126 or always or rng.random() < 0.02:
+            line += "\\x%02x" % byte
+        else:
+            line += chr(byte)
+    if rng.random() < 0.1:
+        at = rng.randrange(len(line) + 1)
+        line = line[:at] + rng.choice(['"', "\\", "\\x", "\\xg0", "\\x0", "\\xAB", "\\R", "\\a", "\\0", "\t",
+                                       "\x7f", "\u00e9", " ", "\\x00", "\\xff"]) + line[at:]
+    return '"' + line + '"'
+
+
+def random_field(rng):
+    """The bytes of a field, in quotes or not, mostly a right one."""
+    if rng.random() < 0.15:
+        return b""
+    if rng.random() < 0.4:
+        return str(rng.choice([rng.randrange(5000), rng.randrange(70), rng.choice(EDGES)])).encode()
+    content = bytes(rng.choice(b"ab 0,,\"\"\r\n\t\\\x00\xff\xc3") for _ in range(rng.randint(0, 6)))
+    if rng.random() < 0.9:
+        return b'"' + content.replace(b'"', b'""') + b'"'
+    return content
+
+
+def table(rng):
+    """A text of records, at times with one byte changed."""
+    text = b""
+    for i in range(rng.choice([0, 1, 1, 2, 3, 5, 20])):
+        text += b",".join(random_field(rng) for _ in range(rng.choice([1, 2, 2, 2, 3, 7])))
+        text += rng.choice([b"\r\n"] * 30 + [b"\r", b"\n", b"\n\r", b"\r\n\r\n", b""])
+    if rng.random() < 0.4 and text.endswith(b"\r\n"):
+        text = text[:rng.choice([-1, -2])]
+    if rng.random() < 0.2:
+        at = rng.randrange(len(text) + 1)
+        text = text[:at] + rng.choice([b'"', b"\r", b"\n", b"x", b",", b""]) + text[at + rng.randrange(2):]
+    return text
+
+
+def texts(rng):
+    """Texts, and where their fields stand."""
+    lines = []
+    for _ in range(rng.randint(5, 60)):
+        lines.append("fields " + typed(rng, table(rng)))
+        if rng.random() < 0.05:
+            lines.append(rng.choice(["fields", "fields ", 'fields "', 'fields ""', 'fields  "a"', 'fields "a" ',
+                                     'fields "a" "b"', 'field "a"', 'fields\t"a"', "fields a", 'Fields "a"',
+                                     'fields 1 "a"', 'fields "a"b']))
     return lines
 
 
@@ -239,7 +296,7 @@ def script(rng, index):
     if index % 100 == 99:
         return long_input(rng, [0, 1, -1, 2][index // 100 % 4])
     kind = rng.choice([small_plan, small_plan, exclusive_plan, exclusive_plan, deep_seniority,
-                       full_tables, edge_numbers, rubbish])
+                       full_tables, edge_numbers, rubbish, texts, texts])
     lines = kind(rng)
     if rng.random() < 0.2:
         lines += rng.choice([small_plan, exclusive_plan])(rng)

@@ -4,7 +4,7 @@
 
 An independent check of the console, written from the definitions and not from the proved code.
 It knows comments, empty lines, new, senior, grant, policy, constraint, authorised-roles,
-held-permissions, judge and the totals line; any other line is not understood.
+held-permissions, judge, fields and the totals line; any other line is not understood.
 
 The comparison rule of --check: every line must be equal byte for byte, except a judge line that
 refuses. Such a line must name the same policy and the same number of users; its role sets are
@@ -196,10 +196,89 @@ def judged(plan):
     return None
 
 
+# ---- texts ----
+
+class Wrong(Exception):
+    """The record with this number is wrong."""
+
+
+def next_field(text, at):
+    """The field that begins at a place: (first byte, after the last, after any closing quote), or None."""
+    if text[at:at + 1] == b'"':
+        end = at + 1
+        while True:
+            end = text.find(b'"', end)
+            if end < 0:
+                return None                              # an open quote
+            if text[end + 1:end + 2] != b'"':
+                return at + 1, end, end + 1
+            end += 2                                     # a quote that is written twice
+    end = at
+    while end < len(text) and text[end] not in b',"\r\n':
+        end += 1
+    return at, end, end
+
+
+def records(text):
+    """The records of a text, each the list of its fields' places."""
+    found, at = [], 0
+    while at < len(text):
+        record = []
+        while True:
+            field = next_field(text, at)
+            if field is None:
+                raise Wrong(len(found) + 1)
+            start, end, at = field
+            record.append((start, end))
+            if at == len(text):
+                break
+            if text[at:at + 2] == b"\r\n":
+                at += 2
+                break
+            if text[at:at + 1] != b",":
+                raise Wrong(len(found) + 1)              # a bare line end, a stray quote, a byte too many
+            at += 1
+        found.append(record)
+    return found
+
+
+def fields_text(text):
+    try:
+        found = records(text)
+    except Wrong as wrong:
+        return "wrong record %d" % wrong.args[0]
+    return "%d records" % len(found) + "".join(
+        " (" + " ".join("%d-%d" % place for place in record) + ")" for record in found)
+
+
 # ---- the console ----
 
 class NotUnderstood(Exception):
     pass
+
+
+ESCAPES = {b"r": b"\r", b"n": b"\n", b"t": b"\t", b'"': b'"', b"\\": b"\\"}
+
+
+def text_of(typed):
+    """The bytes that a text in quotes stands for."""
+    if len(typed) < 2 or typed[:1] != b'"' or typed[-1:] != b'"':
+        raise NotUnderstood
+    typed, text, i = typed[1:-1], b"", 0
+    while i < len(typed):
+        byte, after = typed[i:i + 1], typed[i + 1:i + 2]
+        if byte == b"\\" and after in ESCAPES:
+            text, i = text + ESCAPES[after], i + 2
+        elif byte == b"\\":
+            digits = typed[i + 2:i + 4]
+            if after != b"x" or len(digits) < 2 or any(d not in b"0123456789abcdef" for d in digits):
+                raise NotUnderstood
+            text, i = text + bytes([int(digits, 16)]), i + 4
+        elif byte == b'"' or not 32 <= byte[0] <= 126:
+            raise NotUnderstood
+        else:
+            text, i = text + byte, i + 1
+    return text
 
 
 def number(word):
@@ -234,6 +313,8 @@ class Console:
         """The answer to a call."""
         words = line.split(b" ")
         name, rest = words[0], words[1:]
+        if name == b"fields":
+            return fields_text(text_of(b" ".join(rest)))
         if name == b"new":
             expect(rest, 0)
             self.plan = Plan()
@@ -288,7 +369,7 @@ def perform(text, seen=lambda index, plan: None):
             try:
                 answer = console.call(line)
                 printed.append(line + b" -> " + answer.encode())
-                if answer.startswith("refused"):
+                if answer.startswith(("refused", "wrong")):
                     refused += 1
                 else:
                     accepted += 1

@@ -1,5 +1,1 @@
-mod Numbers
-mod Cutting
-mod Naming
 mod Noting
-mod Shown

@@ -19,3 +19,5 @@ counted answer.Accepted = outcome.Accepted
 counted (answer.Refused fault) = outcome.Refused
 counted (answer.Breachable breach) = outcome.Refused
 counted (answer.Set members) = outcome.Accepted
+counted (answer.Fields list) = outcome.Accepted
+counted (answer.WrongRecord number) = outcome.Refused

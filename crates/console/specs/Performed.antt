@@ -3,6 +3,7 @@ use mathlib.Core.Path.{_≡_}
 use mathlib.Core.List.{List, [], _∷_, _++_}
 use Prim.Native.Nat.{ℕ}
 use Rattle.std.specs.declared.result.Result.{Result}
+use Rattle.std.specs.declared.result.Result.the-variants.{Ok, Err}
 use Rattle.std.specs.Results.{errPart}
 use Rattle.std.specs.Options.{mapped}
 use Rattle.std.specs.Of.Vec.{vec-items}
@@ -14,6 +15,7 @@ use Rattle.plan.specs.declared.Addition.{Addition}
 use Rattle.plan.specs.declared.Plan.{Plan}
 use Rattle.plan.specs.declared.PlanFault.{PlanFault}
 use Rattle.judge.specs.Judging.{Witnessed}
+use Rattle.script.specs.Listing.{Told}
 use Rattle.console.specs.declared.answers.Answer.{Answer}
 use Rattle.console.specs.declared.answers.Answer.the-variants as answer
 use Rattle.console.specs.declared.calls.Call.{Call}
@@ -47,6 +49,8 @@ Right p answer.Accepted = Enforced p
 Right p (answer.Refused fault) = ⊥
 Right p (answer.Breachable breach) = Breachable p × Witnessed p (breach .witness)
 Right p (answer.Set members) = ⊥
+Right p (answer.Fields list) = ⊥
+Right p (answer.WrongRecord number) = ⊥
 
 -- the plan of the same additions was judged; an accepted plan is put into the place, and else the place is kept
 pub record Judged (s : State) (a : Answer) (t : State) : Type 0 where
@@ -55,6 +59,15 @@ pub record Judged (s : State) (a : Answer) (t : State) : Type 0 where
   pub filled : a ≡ answer.Accepted → t .place .plan ≡ t .plan
   pub kept : (a ≡ answer.Accepted → ⊥) → t .place ≡ s .place
 
+-- the answer tells the places of the text's fields, or its first wrong record
+abbrev pub Fielded : List ℕ → Answer → Type 0
+Fielded text answer.Accepted = ⊥
+Fielded text (answer.Refused fault) = ⊥
+Fielded text (answer.Breachable breach) = ⊥
+Fielded text (answer.Set members) = ⊥
+Fielded text (answer.Fields list) = Told text (Ok list)
+Fielded text (answer.WrongRecord number) = Told text (Err number)
+
 -- each call in turn
 abbrev pub Performed : State → Call → Answer → State → Type 0
 Performed s call.New a t = Begun s a t
@@ -62,3 +75,4 @@ Performed s (call.Add x) a t = Logged s x a t
 Performed s (call.AuthorisedRoles roles) a t = Asked s (authorised (s .plan) roles) a t
 Performed s (call.HeldPermissions roles) a t = Asked s (held (s .plan) roles) a t
 Performed s call.Judge a t = Judged s a t
+Performed s (call.Fields text) a t = Fielded (vec-items text) a × (t ≡ s)

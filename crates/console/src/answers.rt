@@ -1,40 +1,15 @@
 // What calls are answered, and how it is printed.
 ghost use mathlib.Core.Path.{_≡_};
-ghost use Rattle.std.specs.declared.option.Option.the-variants.{Some};
 ghost use Rattle.console.specs.Answering.{counted};
-ghost use Rattle.console.specs.Printing.{set-text};
 use super::tally::Outcome;
 use judge::JudgeFault;
 use judge::Witness;
 use plan::PlanFault;
+use script::fields::FieldList;
+use script::fields::FieldListDisplay;
+use script::sets::Members;
+use script::sets::MembersDisplay;
 use std::fmt;
-use terms::sets::contains;
-
-// A set of roles or of permissions.
-#[derive(Clone, Copy)]
-pub(crate) struct Members {
-    pub(crate) set: u64,
-}
-
-pub(crate) impl fmt::Display for Members as MembersDisplay {
-    ghost shown = { λ m. Some (set-text (m .set)) };
-
-    fn fmt<W: fmt::Write>(&self, f: &mut fmt::Formatter<W>) -> fmt::Result {
-        write!(f, "{{")?;
-        let mut parted = false;
-        for member in 0u32..64 {
-            if contains(self.set, member) {
-                if parted {
-                    write!(f, " {member}")?;
-                } else {
-                    write!(f, "{member}")?;
-                }
-                parted = true;
-            }
-        }
-        write!(f, "}}")
-    }
-}
 
 // Why a plan is not accepted, and who could break which of its policies.
 #[derive(Clone, Copy)]
@@ -58,12 +33,16 @@ pub(crate) impl fmt::Display for Breach as BreachDisplay {
 }
 
 // The answer to a call.
-#[derive(Clone, Copy)]
+#[derive(Drop)]
 pub(crate) enum Answer {
     Accepted,
     Refused(PlanFault),
     Breachable(Breach),
     Set(Members),
+    // the records of a text, with the places of their fields
+    Fields(FieldList),
+    // the first wrong record of a text, counted from 1
+    WrongRecord(usize),
 }
 
 impl Answer {
@@ -72,8 +51,8 @@ impl Answer {
         ensures { λ r. ⌜ r ≡ counted (now (self .entry)) ⌝ }
     {
         match self {
-            Answer::Accepted | Answer::Set(_) => Outcome::Accepted,
-            Answer::Refused(_) | Answer::Breachable(_) => Outcome::Refused,
+            Answer::Accepted | Answer::Set(_) | Answer::Fields(_) => Outcome::Accepted,
+            Answer::Refused(_) | Answer::Breachable(_) | Answer::WrongRecord(_) => Outcome::Refused,
         }
     }
 }
@@ -88,6 +67,8 @@ pub(crate) impl fmt::Display for Answer as AnswerDisplay {
             }
             Answer::Breachable(breach) => write!(f, "{breach}"),
             Answer::Set(members) => write!(f, "{members}"),
+            Answer::Fields(list) => write!(f, "{list}"),
+            Answer::WrongRecord(number) => write!(f, "wrong record {number}"),
         }
     }
 }

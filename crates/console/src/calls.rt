@@ -2,7 +2,7 @@ use plan::Addition;
 use terms::sets::RoleSet;
 
 // One call of the service.
-#[derive(Clone, Copy)]
+#[derive(Drop)]
 pub(crate) enum Call {
     // an empty plan is begun
     New,
@@ -14,4 +14,6 @@ pub(crate) enum Call {
     HeldPermissions(RoleSet),
     // the plan now being written is judged
     Judge,
+    // the places of the fields in a text
+    Fields(Vec<u8>),
 }

@@ -1,18 +1,16 @@
 // The console: reads a script from standard input and performs one call of the service a line.
-use script::MOST_BYTES;
-use script::run;
+use running::MOST_BYTES;
+use running::run;
 use std::io;
 use std::io::Read;
 use std::io::Write;
 
 mod answers;
 mod calls;
-mod lines;
 mod reading;
-mod script;
+mod running;
 mod state;
 mod tally;
-mod words;
 
 fn main(rt: LibcRuntime) -> io::Result<()> {
     let heap = rt.alloc();

@@ -1,8 +1,9 @@
-// Calls as they are typed: a name, and words parted by single spaces.
+// Calls as they are typed: a name, and words parted by single spaces or a text in quotes.
 use super::calls::Call;
-use super::words::members;
-use super::words::number;
 use plan::Addition;
+use script::literals::unquoted;
+use script::words::members;
+use script::words::number;
 use std::alloc::AllocError;
 use std::alloc::Global;
 use std::str::from_utf8;
@@ -75,8 +76,19 @@ fn call_of(words: &[&str]) -> Option<Call> {
     }
 }
 
+// The call with the text that is typed in quotes.
+fn fields(heap: Global, typed: &[u8]) -> Result<Option<Call>, AllocError> {
+    match unquoted(heap, typed)? {
+        Some(text) => Ok(Some(Call::Fields(text))),
+        None => Ok(None),
+    }
+}
+
 // The call that a line makes; none where it is not understood.
 pub(super) fn read_call(heap: Global, line: &[u8]) -> Result<Option<Call>, AllocError> {
+    if let Some(typed) = line.strip_prefix(b"fields ") {
+        return fields(heap, typed);
+    }
     let Ok(text) = from_utf8(line) else {
         return Ok(None);
     };

@@ -5,11 +5,10 @@ ghost use Rattle.std.specs.Of.Vec.{vec-items};
 ghost use Rattle.std.specs.Vec.{made};
 ghost use Rattle.plan.specs.Authority.{authorised, held};
 ghost use Rattle.console.specs.declared.answers.Answer.the-variants.{Set};
-ghost use Rattle.console.specs.Performed.{Begun, Logged, Judged, Performed};
+ghost use Rattle.console.specs.Performed.{Begun, Logged, Judged, Fielded, Performed};
 use super::State;
 use crate::answers::Answer;
 use crate::answers::Breach;
-use crate::answers::Members;
 use crate::calls::Call;
 use commission::commission;
 use judge::JudgedPlan;
@@ -17,9 +16,21 @@ use judge::Witness;
 use plan::Addition;
 use plan::Entry;
 use plan::Plan;
+use script::fields::list_fields;
+use script::sets::Members;
 use std::alloc::AllocError;
 use std::alloc::Global;
 use terms::sets::RoleSet;
+
+// The places of the fields in a text.
+fn fields(heap: Global, text: &[u8]) -> Result<Answer, AllocError>
+    ensures { λ r. ⌜ made r (λ a. Fielded (now (text .entry)) a) ⌝ }
+{
+    match list_fields(heap, text)? {
+        Ok(list) => Ok(Answer::Fields(list)),
+        Err(number) => Ok(Answer::WrongRecord(number)),
+    }
+}
 
 impl State {
     // An empty plan, and an empty place.
@@ -86,7 +97,7 @@ impl State {
     }
 
     // Performs a call, and gives its answer.
-    pub(crate) fn perform(&mut self, call: Call) -> Result<Answer, AllocError>
+    pub(crate) fn perform(&mut self, heap: Global, call: Call) -> Result<Answer, AllocError>
         ensures { λ r. ⌜ made r (λ a. Performed (now (self .entry)) call a (now (self .exit))) ⌝ }
     {
         match call {
@@ -95,6 +106,7 @@ impl State {
             Call::AuthorisedRoles(roles) => Ok(self.authorised_roles(roles)),
             Call::HeldPermissions(roles) => Ok(self.held_permissions(roles)),
             Call::Judge => Ok(self.judge()),
+            Call::Fields(text) => fields(heap, text.as_slice()),
         }
     }
 }

@@ -1,0 +1,7 @@
+mod Cutting
+mod Entered
+mod Listing
+mod Naming
+mod Numbers
+mod Shown
+mod Spelling
