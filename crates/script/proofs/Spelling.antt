@@ -13,11 +13,11 @@ use Rattle.std.specs.declared.result.Result.{Result}
 use Rattle.std.specs.declared.result.Result.the-variants.{Ok, Err}
 use Rattle.std.specs.Options.{Cases}
 use Rattle.std.specs.Vec.{made}
-use Rattle.script.specs.Literals.{HexDigit, Letter, Prints, Unit-at, Spells, Quoted, Literal}
+use Rattle.script.specs.Literals.{HexDigit, ShortEscape, Prints, Unit-at, Spells, Quoted, Literal}
 use Rattle.script.specs.Literals.Spells.{none, more}
 
 -- nothing is typed where the two ways after a backslash both fail
-pub no-unit : (ts : List ℕ) (at : ℕ) → getD ts at 0 ≡ 92 → ((b : ℕ) → Letter (getD ts (at + 1) 0) b → ⊥) → (getD ts (at + 1) 0 ≡ 120 → (x y : ℕ) → HexDigit (getD ts (at + 2) 0) x → HexDigit (getD ts (at + 3) 0) y → ⊥) → (b next : ℕ) → Unit-at ts at b next → ⊥
+pub no-unit : (ts : List ℕ) (at : ℕ) → getD ts at 0 ≡ 92 → ((b : ℕ) → ShortEscape (getD ts (at + 1) 0) b → ⊥) → (getD ts (at + 1) 0 ≡ 120 → (x y : ℕ) → HexDigit (getD ts (at + 2) 0) x → HexDigit (getD ts (at + 3) 0) y → ⊥) → (b next : ℕ) → Unit-at ts at b next → ⊥
 no-unit ts at e no-short no-hex b next u =
     elim u [
       | inl p ↦ p .0 .3 (sym (p .1) ∙ e)
@@ -28,11 +28,11 @@ no-unit ts at e no-short no-hex b next u =
     ]
 
 -- an x is no letter that is escaped alone
-pub x-no-letter : (c b : ℕ) → c ≡ 120 → Letter c b → ⊥
+pub x-no-letter : (c b : ℕ) → c ≡ 120 → ShortEscape c b → ⊥
 x-no-letter c b e h = grind arith
 
 -- nor is what getD reads past the end
-pub past-no-letter : (ts : List ℕ) (i b : ℕ) → length ts ≤ i → Letter (getD ts i 0) b → ⊥
+pub past-no-letter : (ts : List ℕ) (i b : ℕ) → length ts ≤ i → ShortEscape (getD ts i 0) b → ⊥
 past-no-letter ts i b l h = let z : getD ts i 0 ≡ 0 = getD-past ts i 0 l in grind arith
 
 pub past-no-digit : (ts : List ℕ) (i x : ℕ) → length ts ≤ i → HexDigit (getD ts i 0) x → ⊥

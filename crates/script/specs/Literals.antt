@@ -10,8 +10,8 @@ abbrev pub HexDigit : ℕ → ℕ → Type 0
 HexDigit c x = ((48 ≤ c) × (c ≤ 57) × (c ≡ x + 48)) ⊎ ((97 ≤ c) × (c ≤ 102) × (c ≡ x + 87))
 
 -- after a backslash, c stands for b: r, n and t for CR, LF and tab, a quote and a backslash for themselves
-abbrev pub Letter : ℕ → ℕ → Type 0
-Letter c b =
+abbrev pub ShortEscape : ℕ → ℕ → Type 0
+ShortEscape c b =
     ((c ≡ 114) × (b ≡ 13)) ⊎ (((c ≡ 110) × (b ≡ 10)) ⊎ (((c ≡ 116) × (b ≡ 9)) ⊎ (((c ≡ 34) × (b ≡ 34)) ⊎ ((c ≡ 92) × (b ≡ 92)))))
 
 -- the byte b stands for itself: it prints, and is neither a quote nor a backslash
@@ -25,7 +25,7 @@ Plain-at typed at b next = Prints b × (getD typed at 0 ≡ b) × (next ≡ at +
 
 -- a backslash and a letter
 abbrev pub Short-at : List ℕ → ℕ → ℕ → ℕ → Type 0
-Short-at typed at b next = (getD typed at 0 ≡ 92) × Letter (getD typed (at + 1) 0) b × (next ≡ at + 2)
+Short-at typed at b next = (getD typed at 0 ≡ 92) × ShortEscape (getD typed (at + 1) 0) b × (next ≡ at + 2)
 
 -- a backslash, an x, and two hex digits
 abbrev pub Hex-at : List ℕ → ℕ → ℕ → ℕ → Type 0

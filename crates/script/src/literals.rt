@@ -5,7 +5,7 @@ ghost use lib.ListN.{length};
 ghost use Rattle.std.specs.Options.{Cases as BySome};
 ghost use Rattle.std.specs.Of.Vec.{vec-items};
 ghost use Rattle.std.specs.Vec.{made};
-ghost use Rattle.script.specs.Literals.{HexDigit, Letter, Unit-at, Spells, Quoted, Literal};
+ghost use Rattle.script.specs.Literals.{HexDigit, ShortEscape, Unit-at, Spells, Quoted, Literal};
 use std::alloc::AllocError;
 use std::alloc::Global;
 
@@ -22,7 +22,7 @@ fn hex_value(digit: u8) -> Option<u8>
 
 // The byte that a letter after a backslash stands for.
 fn escaped(letter: u8) -> Option<u8>
-    ensures { λ r. ⌜ BySome r ((b : ℕ) → Letter letter b → ⊥) (λ b. Letter letter b) ⌝ }
+    ensures { λ r. ⌜ BySome r ((b : ℕ) → ShortEscape letter b → ⊥) (λ b. ShortEscape letter b) ⌝ }
 {
     match letter {
         b'r' => Some(b'\r'),
