@@ -1,7 +1,7 @@
 -- What a plan means for a user, who is given by the set of his assigned roles: the roles that he is authorised for,
 -- the permissions that he holds, and whether he satisfies the constraints.
 use mathlib.Core.List.{List, [], _∷_}
-use Prim.Native.Nat.{ℕ, _<_}
+use Prim.Native.Nat.{ℕ, _<_, _≤_}
 use lib.Bits.{bitOr, bitAnd}
 use lib.Count.{ones}
 use lib.ListN.{getD}
@@ -54,7 +54,13 @@ constraintAt p i = constraintIn (p .constraints) i
 abbrev pub Satisfies : Plan → ℕ → Type 0
 Satisfies p w = (i : ℕ) → i < constraintCount p → ones (bitAnd (authorised p w) (constraintAt p i .roles)) < constraintAt p i .limit
 
--- every user of an assignment does; users are given by their assigned roles
+-- constraint i is the lowest that he breaks
+pub record LowestBroken (p : Plan) (w i : ℕ) : Type 0 where
+  pub numbered : i < constraintCount p
+  pub breaks : constraintAt p i .limit ≤ ones (bitAnd (authorised p w) (constraintAt p i .roles))
+  pub lowest : (j : ℕ) → j < i → ones (bitAnd (authorised p w) (constraintAt p j .roles)) < constraintAt p j .limit
+
+-- every user of an assignment satisfies them all; users are given by their assigned roles
 abbrev pub AllSatisfy : Plan → List ℕ → Type 0
 AllSatisfy p [] = Unit {0}
 AllSatisfy p (w ∷ ws) = Satisfies p w × AllSatisfy p ws

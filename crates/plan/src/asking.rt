@@ -4,10 +4,11 @@ ghost use mathlib.Core.Logic.{_↔_};
 ghost use Prim.Native.Nat.{ℕ, _<_};
 ghost use lib.Dec.{ltb};
 ghost use lib.ListN.{getD};
+ghost use Rattle.std.specs.Options.{Cases as BySome};
 ghost use Rattle.std.specs.Orderings.{Decides};
 ghost use Rattle.std.specs.declared.option.Option.the-variants.{Some, None};
 ghost use Rattle.terms.specs.Sets.{In, union};
-ghost use Rattle.plan.specs.Authority.{Senior, Granted, AuthorisedFor, Holds, authorised, held, policyCount, policyAt, constraintCount, constraintAt, Satisfies};
+ghost use Rattle.plan.specs.Authority.{Senior, Granted, AuthorisedFor, Holds, authorised, held, policyCount, policyAt, constraintCount, constraintAt, Satisfies, LowestBroken};
 use super::Constraint;
 use super::Plan;
 use super::Policy;
@@ -45,18 +46,25 @@ impl Plan {
         union_of(&self.grants, self.authorised(assigned))
     }
 
-    // Whether he satisfies every constraint.
-    pub fn satisfies(&self, assigned: RoleSet) -> bool
-        ensures { λ r. ⌜ Decides r (Satisfies (now (self .entry)) assigned) ⌝ }
+    // The lowest constraint that he breaks, if he breaks one.
+    pub fn broken(&self, assigned: RoleSet) -> Option<usize>
+        ensures { λ r. ⌜ BySome r (Satisfies (now (self .entry)) assigned) (λ i. LowestBroken (now (self .entry)) assigned i) ⌝ }
     {
         let all = self.authorised(assigned);
         for i in 0..self.constraint_count {
             let c = self.constraints[i];
             if (all & c.roles).count_ones() >= c.limit {
-                return false;
+                return Some(i);
             }
         }
-        true
+        None
+    }
+
+    // Whether he satisfies every constraint.
+    pub fn satisfies(&self, assigned: RoleSet) -> bool
+        ensures { λ r. ⌜ Decides r (Satisfies (now (self .entry)) assigned) ⌝ }
+    {
+        self.broken(assigned).is_none()
     }
 
     // The roles that a role is senior to, itself among them; none for a role above 63.
