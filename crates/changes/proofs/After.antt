@@ -122,3 +122,7 @@ row-ended [] u t l = refl
 row-ended (c ∷ cs) u t l =
     row-ended cs u (changed t c) (omega (arith, length-set t (userOf c) (changedRow (userOf c) c (row t (userOf c)))))
     ∙ ap (rowAfter u cs) (row-changed u c t l)
+
+pub length-ended : (cs : List Change) (t : List ℕ) → length (ended t cs) ≡ length t
+length-ended [] t = refl
+length-ended (c ∷ cs) t = length-ended cs (changed t c) ∙ length-set t (userOf c) (changedRow (userOf c) c (row t (userOf c)))

@@ -1,3 +1,4 @@
 pub mod Drafts
 pub mod Latest
 pub mod Ends
+pub mod Turns

@@ -6,6 +6,7 @@ ghost use lib.ListN.{length};
 mod drafting;
 mod faults;
 pub mod rows;
+pub mod turns;
 
 // A change, with its user and role.
 #[derive(Clone, Copy)]
@@ -14,6 +15,26 @@ pub enum Change {
     Assignment(u32, u32),
     // the role is withdrawn from him
     Withdrawal(u32, u32),
+}
+
+// Why a change is refused in its turn.
+#[derive(Clone, Copy, PartialEq, Eq, Debug)]
+pub enum ChangeFault {
+    // the user is not below the number of users
+    NoUser,
+    // a role above 63
+    NoRole,
+    // an assignment of a pair that is held
+    Held,
+    // a withdrawal of a pair that is not
+    NotHeld,
+}
+
+// A change that is refused in its turn: its number in the list, from 0, and why.
+#[derive(Clone, Copy)]
+pub struct TurnFault {
+    pub change: usize,
+    pub fault: ChangeFault,
 }
 
 // At most 16 changes in order: the first of the table, as many as the count says.
