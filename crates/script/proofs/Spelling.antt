@@ -28,12 +28,12 @@ no-unit ts at e no-short no-hex b next u =
     ]
 
 -- an x is no letter that is escaped alone
-pub x-no-letter : (c b : ℕ) → c ≡ 120 → ShortEscape c b → ⊥
-x-no-letter c b e h = grind arith
+pub x-no-escape : (c b : ℕ) → c ≡ 120 → ShortEscape c b → ⊥
+x-no-escape c b e h = grind arith
 
 -- nor is what getD reads past the end
-pub past-no-letter : (ts : List ℕ) (i b : ℕ) → length ts ≤ i → ShortEscape (getD ts i 0) b → ⊥
-past-no-letter ts i b l h = let z : getD ts i 0 ≡ 0 = getD-past ts i 0 l in grind arith
+pub past-no-escape : (ts : List ℕ) (i b : ℕ) → length ts ≤ i → ShortEscape (getD ts i 0) b → ⊥
+past-no-escape ts i b l h = let z : getD ts i 0 ≡ 0 = getD-past ts i 0 l in grind arith
 
 pub past-no-digit : (ts : List ℕ) (i x : ℕ) → length ts ≤ i → HexDigit (getD ts i 0) x → ⊥
 past-no-digit ts i x l h = let z : getD ts i 0 ≡ 0 = getD-past ts i 0 l in grind arith
@@ -49,8 +49,8 @@ unit-once ts at b n c m u v =
       | inr u′ ↦ elim v [
         | inl q ↦ absurd (q .0 .3 (sym (q .1) ∙ elim u′ [ inl s ↦ s .0 | inr h ↦ h .0 ]))
         | inr v′ ↦ elim u′ [
-          | inl s ↦ elim v′ [ inl t ↦ s .2 ∙ sym (t .2) | inr h ↦ absurd (x-no-letter (getD ts (at + 1) 0) b (h .1) (s .1)) ]
-          | inr g ↦ elim v′ [ inl t ↦ absurd (x-no-letter (getD ts (at + 1) 0) c (g .1) (t .1)) | inr h ↦ g .3 ∙ sym (h .3) ]
+          | inl s ↦ elim v′ [ inl t ↦ s .2 ∙ sym (t .2) | inr h ↦ absurd (x-no-escape (getD ts (at + 1) 0) b (h .1) (s .1)) ]
+          | inr g ↦ elim v′ [ inl t ↦ absurd (x-no-escape (getD ts (at + 1) 0) c (g .1) (t .1)) | inr h ↦ g .3 ∙ sym (h .3) ]
         ]
       ]
     ]

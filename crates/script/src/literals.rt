@@ -21,14 +21,14 @@ fn hex_value(digit: u8) -> Option<u8>
 }
 
 // The byte that a letter after a backslash stands for.
-fn escaped(letter: u8) -> Option<u8>
-    ensures { λ r. ⌜ BySome r ((b : ℕ) → ShortEscape letter b → ⊥) (λ b. ShortEscape letter b) ⌝ }
+fn escaped(after: u8) -> Option<u8>
+    ensures { λ r. ⌜ BySome r ((b : ℕ) → ShortEscape after b → ⊥) (λ b. ShortEscape after b) ⌝ }
 {
-    match letter {
+    match after {
         b'r' => Some(b'\r'),
         b'n' => Some(b'\n'),
         b't' => Some(b'\t'),
-        b'"' | b'\\' => Some(letter),
+        b'"' | b'\\' => Some(after),
         _ => None,
     }
 }
