@@ -23,7 +23,7 @@ use Rattle.plan.specs.Refusing.{shown, seniorRows, policyRows, constraintRows}
 use Rattle.terms.specs.Refusals.{when, firstOf, refusal}
 use Rattle.plan.specs.Authority.{Senior, Granted}
 use Rattle.plan.specs.Adding.{SeniorAdded}
-use Rattle.plan.specs.History.{rows, Added, additions, made, accepted, seniors, grants, policies, constraints, Listed, Reaches, itself, step, Means, entry, Answered, Additive}
+use Rattle.plan.specs.History.{rows, Added, additions, made, accepted, seniors, grants, policies, constraints, Listed, Reaches, itself, step, Means, entry, Answered}
 use Rattle.plan.specs.declared.Plan.{Plan}
 use Rattle.plan.specs.declared.PlanFault.{PlanFault}
 use Rattle.plan.specs.declared.Addition.{Addition}
@@ -260,9 +260,6 @@ rows-same xs p q m n (add.Policy w k) = ap (λ b. firstOf (when (ltb k 2 || ltb 
     (policies-counted xs p m ∙ sym (policies-counted xs q n))
 rows-same xs p q m n (add.Constraint w t) = ap (λ b. firstOf (when (ltb t 2 || ltb (ones w) t) (refusal 4 []) ∷ when (leb 64 b) (refusal 6 []) ∷ []))
     (constraints-counted xs p m ∙ sym (constraints-counted xs q n))
-
-pub additive : Additive
-additive xs p q x m h = means-more xs p q m x h
 
 -- one entry more of a log
 module _ (log : List Entry) (i : ℕ) (x : Entry) (low : i < length log) (p : Plan) (m : Means (accepted (take i log)) p) where

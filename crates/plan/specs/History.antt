@@ -106,7 +106,3 @@ pub record Answered (log : List Entry) (n : ℕ) : Type 0 where
   pub so-far : Plan
   pub means : Means (accepted (take n log)) so-far
   pub answer : (p : Plan) → Means (accepted (take n log)) p → mapped shown (errPart (entry log n .answer)) ≡ rows p (entry log n .addition)
-
--- what a plan means, one accepted addition later
-abbrev pub Additive : Type 0
-Additive = (xs : List Addition) (p q : Plan) (x : Addition) → Means xs p → Added p x q → Means (xs ++ (x ∷ [])) q
