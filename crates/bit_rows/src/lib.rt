@@ -1,6 +1,8 @@
 // Bit rows: a register in a lent table of words, one 64-bit word for a user, the first 4,096 words at most.
+#![tactic(auto)]
+
 ghost use Rattle.std.specs.Prelude.{◌≡◌, ℕ, ◌*◌, ◌^◌, ◌<◌, ◌≤◌, [], ◌∷◌, length, drop, slice_index, slice_set};
-ghost use Rattle.register.specs.Pairs.{row as row_at, pairs as pairCount, having};
+ghost use Rattle.register.specs.Pairs.{row as row_at, pairs as pair_count, having};
 ghost use Rattle.bit_rows.specs.Table.{rows_of, model_of};
 
 mod counts;
@@ -15,11 +17,11 @@ pub struct BitRows<'a> {
     words: &'a mut [u64],
     pairs: u32,
     members: [u32; 64],
-    ghost counted: { pairs ≡ pairCount (rows_of words.now) },
+    ghost counted: { pairs ≡ pair_count (rows_of words.now) },
     ghost each: { (r : ℕ) → r < 64 → slice_index members r ≡ having r (rows_of words.now) },
     ghost few: { length (rows_of words.now) ≤ 4096 },
     ghost wide: { (u : ℕ) → row_at (rows_of words.now) u < 2 ^ 64 },
-    ghost within: { pairCount (rows_of words.now) ≤ 64 * length (rows_of words.now) },
+    ghost within: { pair_count (rows_of words.now) ≤ 64 * length (rows_of words.now) },
 }
 
 impl<'a> BitRows<'a> {

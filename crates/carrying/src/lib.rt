@@ -1,4 +1,6 @@
 // A list of changes carried over a register as one: all of them are made, or none.
+#![tactic(auto)]
+
 ghost use Rattle.std.specs.Prelude.{◌≡◌};
 ghost use Rattle.carrying.specs.declared.CarryFault.TheVariants.{Full, Turn};
 

@@ -1,4 +1,6 @@
 // Compares what the service answers with what is expected of it, case after case.
+#![tactic(auto)]
+
 use commission::commission;
 use judge::{JudgedPlan, Witness};
 use plan::{Addition, Entry, Plan, PlanFault};

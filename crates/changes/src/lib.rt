@@ -1,4 +1,6 @@
 // Changes of an assignment, drafts of them, and what they make of a user's roles.
+#![tactic(auto)]
+
 ghost use Rattle.std.specs.Prelude.{◌≡◌, ℕ, ◌≤◌, length};
 
 mod drafting;

@@ -1,4 +1,6 @@
 // A plan from the list of its additions, made from nothing and judged: the call that programs make.
+#![tactic(auto)]
+
 ghost use Rattle.std.specs.Prelude.{◌≡◌};
 ghost use Rattle.plan.specs.History.{additions};
 ghost use Rattle.commission.specs.Promise.{Promise};

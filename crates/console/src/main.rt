@@ -1,4 +1,6 @@
 // The console: reads a script from standard input and performs one call of the service a line.
+#![tactic(auto)]
+
 use running::{MOST_BYTES, run};
 use std::io;
 use std::io::{Read, Write};

@@ -1,4 +1,6 @@
 // The engine: it opens from a judged plan over a register, and its calls alone change who is assigned to which role.
+#![tactic(auto)]
+
 ghost use Rattle.std.specs.Prelude.{◌≡◌, length};
 ghost use Rattle.engine.specs.Holders.{HoldersRight};
 ghost use Rattle.engine.specs.declared.EngineFault.TheVariants.{Turn, Full};

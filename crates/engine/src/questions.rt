@@ -1,7 +1,7 @@
 ghost use Rattle.std.specs.Prelude.{◌≡◌, ◌<◌, true, ◌↔◌, IfOk, Ok};
 ghost use Rattle.std.specs.Option.{option_map};
 ghost use Rattle.std.specs.Result.{result_err};
-ghost use Rattle.register.specs.Pairs.{row, pairs as pairCount};
+ghost use Rattle.register.specs.Pairs.{row, pairs as pair_count};
 ghost use Rattle.register.specs.Model.{users_of};
 ghost use Rattle.plan.specs.Authority.{Holds, authorised as authorisedBy};
 ghost use Rattle.engine.specs.Rows.{shown, user_rows, may_rows, holds_by};
@@ -52,7 +52,7 @@ impl<R: Register> Engine<R> {
 
     // The number of pairs.
     pub fn pairs(&self) -> u32
-        ensures { result ≡ pairCount (R.Register.model self.now.register).rows }
+        ensures { result ≡ pair_count (R.Register.model self.now.register).rows }
     {
         self.register.pairs()
     }

@@ -1,6 +1,8 @@
 // A register of an integrator's own: one lent flag for each user and role. It is made of the trait alone.
+#![tactic(auto)]
+
 ghost use Rattle.std.specs.Prelude.{◌≡◌, ℕ, ◌*◌, ◌^◌, ◌<◌, ◌≤◌, [], ◌∷◌, length};
-ghost use Rattle.register.specs.Pairs.{row as row_at, pairs as pairCount};
+ghost use Rattle.register.specs.Pairs.{row as row_at, pairs as pair_count};
 ghost use Rattle.flag_table.specs.Flags.{rows_of, users_in, model_of, spare_of};
 
 use register::{Register, RegisterFault};
@@ -13,7 +15,7 @@ pub struct FlagTable<'a> {
     seats: u32,
     ghost few: { length (rows_of flags.now) ≤ 4096 },
     ghost wide: { (u : ℕ) → row_at (rows_of flags.now) u < 2 ^ 64 },
-    ghost within: { pairCount (rows_of flags.now) ≤ 64 * users_in flags.now },
+    ghost within: { pair_count (rows_of flags.now) ≤ 64 * users_in flags.now },
 }
 
 impl<'a> FlagTable<'a> {

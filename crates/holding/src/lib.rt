@@ -1,4 +1,6 @@
 // One user: with which roles, if any, he can hold a set of permissions without breaking a constraint.
+#![tactic(auto)]
+
 ghost use Rattle.holding.specs.Tables.{Gains, Outside};
 
 use plan::Plan;

@@ -1,4 +1,6 @@
 // Judging a plan: it is accepted exactly when its constraints enforce all its policies.
+#![tactic(auto)]
+
 ghost use Rattle.judge.specs.Invariant.{Unbreachable};
 
 use plan::Plan;

@@ -1,5 +1,7 @@
 // The plan of a store: which role is senior to which, which permissions each role is granted, which
 // policies say how many people a set of permissions takes, and which constraints exclude roles from each other.
+#![tactic(auto)]
+
 ghost use Rattle.std.specs.Prelude.{◌≡◌, ℕ, ◌<◌, ◌≤◌, length};
 ghost use Rattle.plan.specs.Limits.{AtLeastTwo, AtMostEight, Fitting, Narrow, Limited};
 ghost use Rattle.plan.specs.Order.{Reflexive, Transitive, Antisymmetric};

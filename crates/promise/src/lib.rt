@@ -1,2 +1,4 @@
 // The promise over whole histories: lists of calls to an engine, each with its answer.
+#![tactic(auto)]
+
 pub mod log;

@@ -1,4 +1,6 @@
 // Registers: who is assigned to which role, within a number of users, of places and of seats.
+#![tactic(auto)]
+
 ghost use Rattle.std.specs.Prelude.{◌≡◌};
 ghost use Rattle.std.specs.Option.{option_map};
 ghost use Rattle.std.specs.Result.{result_err};

@@ -1,4 +1,6 @@
 // Runs registers through long random call lists beside a plain model, and compares every answer and the whole table after each call.
+#![tactic(auto)]
+
 use bit_rows::BitRows;
 use flag_table::FlagTable;
 use generator::Generator;

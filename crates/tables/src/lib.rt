@@ -1,4 +1,6 @@
 // Assignment tables in text: the header `user,role`, then one record for a pair.
+#![tactic(auto)]
+
 ghost use Rattle.std.specs.Prelude.{◌≡◌};
 ghost use Rattle.tables.specs.declared.RecordFault.TheVariants.{Malformed};
 

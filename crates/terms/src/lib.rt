@@ -1,2 +1,4 @@
 // The terms that every layer shares.
+#![tactic(auto)]
+
 pub mod sets;

@@ -1,4 +1,6 @@
 // Tables in text by RFC 4180: the reader of fields and records, numbers, and the header's line.
+#![tactic(auto)]
+
 pub mod field;
 pub mod header;
 pub mod number;

@@ -1,4 +1,6 @@
 // Compares what the reader and the writer of texts do with what is expected of them, vector after vector.
+#![tactic(auto)]
+
 use shown::{Count, Digits, Fields, Pairs, Start};
 use std::io;
 

@@ -1,4 +1,6 @@
 // The writer's parts: numbers, lines and tables, stored in a lent buffer.
+#![tactic(auto)]
+
 ghost use Rattle.std.specs.Prelude.{◌≡◌, ◌+◌, ◌≤◌, length, take, IfOk, decimal, nat_le};
 ghost use Rattle.std.specs.List.{flat_map};
 ghost use Rattle.text_out.specs.Tables.{Back, RoundTrip};
