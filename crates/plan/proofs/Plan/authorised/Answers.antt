@@ -8,5 +8,5 @@ pub returns : goal.returns
 returns c =
     let p = c.args.self.now in
     let w = c.args.assigned in
-    let e : c.union-of.result ≡ authorised p w = c.union-of.ensures in
+    let e : c.union_of.result ≡ authorised p w = c.union_of.ensures in
     record { value = e; exactly = λ b. subst (λ (r : ℕ). In b r ↔ AuthorisedFor p w b) (sym e) (authorised_exactly p w b) }

@@ -3,39 +3,9 @@ use Rattle.plan.proofs.Tables.{each_more}
 use Rattle.std.proofs.lemmas.List.{take_more_set}
 use Rattle.plan.proofs.Plan.constraint.Goals as goal
 
-pub invariant-of-self : goal.invariant-of-self
-invariant-of-self c =
-    let p = c.args.self.now in (
-      p.reflexive,
-      (
-        p.transitive,
-        (
-          p.antisymmetric,
-          (
-            p.few,
-            (
-              omega arith,
-              (
-                p.several,
-                (
-                  p.eight,
-                  (
-                    p.fitting,
-                    (
-                      p.narrow,
-                      (
-                        each_more (λ q. 2 ≤ q.limit) p.constraints p.constraint_count _ _ (omega arith) p.limited (omega arith),
-                        (p.whole, tt),
-                      ),
-                    ),
-                  ),
-                ),
-              ),
-            ),
-          ),
-        ),
-      ),
-    )
+pub invariant_of-self : goal.invariant_of-self
+invariant_of-self c =
+    let p = c.args.self.now in record { reflexive = p.reflexive; transitive = p.transitive; antisymmetric = p.antisymmetric; few = p.few; bounded = omega arith; several = p.several; eight = p.eight; fitting = p.fitting; narrow = p.narrow; limited = each_more (λ q. 2 ≤ q.limit) p.constraints p.constraint_count _ _ (omega arith) p.limited (omega arith); whole = p.whole }
 
 pub returns : goal.returns
 returns c = record {

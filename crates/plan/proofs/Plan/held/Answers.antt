@@ -8,5 +8,5 @@ pub returns : goal.returns
 returns c =
     let p = c.args.self.now in
     let w = c.args.assigned in
-    let e : c.union-of.result ≡ held p w = c.union-of.ensures ∙ ap (union p.grants) c.authorised.ensures.value in
+    let e : c.union_of.result ≡ held p w = c.union_of.ensures ∙ ap (union p.grants) c.authorised.ensures.value in
     record { value = e; exactly = λ b. subst (λ (r : ℕ). In b r ↔ Holds p w b) (sym e) (held_exactly p w b) }

@@ -4,36 +4,9 @@ use Rattle.std.proofs.lemmas.List.{take_more_set}
 use Rattle.plan.proofs.Tables.{each_more}
 use Rattle.plan.proofs.Plan.policy.Goals as goal
 
-pub invariant-of-self : goal.invariant-of-self
-invariant-of-self c =
-    let p = c.args.self.now in (
-      p.reflexive,
-      (
-        p.transitive,
-        (
-          p.antisymmetric,
-          (
-            omega arith,
-            (
-              p.bounded,
-              (
-                each_more (λ q. 2 ≤ q.least) p.policies p.policy_count _ _ (omega arith) p.several (omega arith),
-                (
-                  each_more (λ q. q.least ≤ 8) p.policies p.policy_count _ _ (omega arith) p.eight (omega arith),
-                  (
-                    each_more (λ q. q.least ≤ ones q.permissions) p.policies p.policy_count _ _ (omega arith) p.fitting (omega arith),
-                    (
-                      each_more (λ q. ones q.permissions ≤ 16) p.policies p.policy_count _ _ (omega arith) p.narrow (omega arith),
-                      (p.limited, (p.whole, tt)),
-                    ),
-                  ),
-                ),
-              ),
-            ),
-          ),
-        ),
-      ),
-    )
+pub invariant_of-self : goal.invariant_of-self
+invariant_of-self c =
+    let p = c.args.self.now in record { reflexive = p.reflexive; transitive = p.transitive; antisymmetric = p.antisymmetric; few = omega arith; bounded = p.bounded; several = each_more (λ q. 2 ≤ q.least) p.policies p.policy_count _ _ (omega arith) p.several (omega arith); eight = each_more (λ q. q.least ≤ 8) p.policies p.policy_count _ _ (omega arith) p.eight (omega arith); fitting = each_more (λ q. q.least ≤ ones q.permissions) p.policies p.policy_count _ _ (omega arith) p.fitting (omega arith); narrow = each_more (λ q. ones q.permissions ≤ 16) p.policies p.policy_count _ _ (omega arith) p.narrow (omega arith); limited = p.limited; whole = p.whole }
 
 pub returns : goal.returns
 returns c = record {

@@ -5,16 +5,15 @@ use Rattle.plan.proofs.Seniority.{keeps, gains, only, reflexive', transitive', a
 use Rattle.plan.proofs.Plan.senior.Goals as goal
 use Rattle.plan.proofs.Plan.senior.Goals.{else-senior-junior-via-then-senior-junior+else-contains, else-senior-junior-via-else-senior-junior}
 
-pub invariant-of-self : goal.invariant-of-self
-invariant-of-self c =
+pub invariant_of-self : goal.invariant_of-self
+invariant_of-self c =
     let p = c.args.self.now in
     let free : (c.args.senior ≡ c.args.junior) ⊎ (Over p.juniors c.args.junior c.args.senior → ⊥) =
     elim c.else-senior-junior.branch [
       | else-senior-junior-via-then-senior-junior+else-contains w ↦ inr (λ h. both_ways _ w.if-contains.false (w.contains.ensures.no h))
       | else-senior-junior-via-else-senior-junior w ↦ inl w.if-senior-junior.false
     ] in
-    let m = c.raise.ensures in
-    (reflexive' _ _ _ _ m p.reflexive, (transitive' _ _ _ _ m p.transitive, (antisymmetric' _ _ _ _ m p.transitive p.antisymmetric free, (p.few, (p.bounded, (p.several, (p.eight, (p.fitting, (p.narrow, (p.limited, (p.whole, tt)))))))))))
+    let m = c.raise.ensures in record { reflexive = reflexive' _ _ _ _ m p.reflexive; transitive = transitive' _ _ _ _ m p.transitive; antisymmetric = antisymmetric' _ _ _ _ m p.transitive p.antisymmetric free; few = p.few; bounded = p.bounded; several = p.several; eight = p.eight; fitting = p.fitting; narrow = p.narrow; limited = p.limited; whole = p.whole }
 
 pub returns : goal.returns
 returns c =

@@ -5,8 +5,8 @@ use Rattle.text.proofs.Spans.{plain_upto, quoted_upto}
 use Rattle.text.proofs.field.span_at.Goals as goal
 use Rattle.text.proofs.field.span_at.Goals.{else-at-text-via-then-at-text+else-text-at-eq34, else-at-text-via-else-at-text}
 
-pub returns-in-default : goal.returns-in-default
-returns-in-default c = unclosed (search rules) (search rules) c.in-default.ensures
+pub returns-in_default : goal.returns-in_default
+returns-in_default c = unclosed (search rules) (search rules) c.in_default.ensures
 
 pub returns-then-text-at-eq34 : goal.returns-then-text-at-eq34
 returns-then-text-at-eq34 c =
@@ -21,7 +21,7 @@ returns-then-text-at-eq34 c =
 
 pub returns : goal.returns
 returns c =
-    let e = c.plain-end-end.ensures in
+    let e = c.plain_end-end.ensures in
     let n = no_quote c.args.text.now c.args.at
     (elim c.else-at-text.branch [
       | else-at-text-via-then-at-text+else-text-at-eq34 w ↦ λ a b. w.if-text-at-eq34.false b
@@ -29,7 +29,7 @@ returns c =
     ]) in
     record {
       content = e.run.0;
-      upto = plain_upto c.args.text.now c.args.at c.plain-end-end.result e.run n e.stops e.within.1;
+      upto = plain_upto c.args.text.now c.args.at c.plain_end-end.result e.run n e.stops e.within.1;
       start = refl;
       order = e.within.0;
       inside = e.run.2;

@@ -16,11 +16,11 @@ returns-then-b-lt48 c = record {
   bound = tt;
 }
 
-pub overflow-mul-n : goal.overflow-mul-n
-overflow-mul-n c = omega (arith, room c.loop-b.n c.loop-b.b-index c.loop-b.invariant.2 (omega (arith, c.loop-b.invariant.3)))
+pub overflow_mul-n : goal.overflow_mul-n
+overflow_mul-n c = omega (arith, room c.loop-b.n c.loop-b.b-index c.loop-b.invariant.2 (omega (arith, c.loop-b.invariant.3)))
 
-pub overflow-add-n : goal.overflow-add-n
-overflow-add-n c = omega (arith, c.from.ensures, room c.loop-b.n c.loop-b.b-index c.loop-b.invariant.2 (omega (arith, c.loop-b.invariant.3)))
+pub overflow_add-n : goal.overflow_add-n
+overflow_add-n c = omega (arith, c.from.ensures, room c.loop-b.n c.loop-b.b-index c.loop-b.invariant.2 (omega (arith, c.loop-b.invariant.3)))
 
 pub loop-b-preserved : goal.loop-b-preserved
 loop-b-preserved c =

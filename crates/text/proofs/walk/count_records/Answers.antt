@@ -22,18 +22,18 @@ returns-in-Err c =
 pub loop-reader-smaller : goal.loop-reader-smaller
 loop-reader-smaller c =
     let i = c.loop-reader.invariant in
-    let h = c.in-default.ensures in
+    let h = c.in_default.ensures in
     let l = bytes_left c.loop-reader.reader.text.now c.args.text.now c.loop-reader.reader.at i.0 c.loop-reader-test.ensures i.1.within in
     let w : c.loop-reader.reader.at < length c.loop-reader.reader.text.now = omega (arith, l, ap length i.0) in
-    omega (arith, w, skipped_later c.loop-reader.reader.text.now c.loop-reader.reader.at c.in-default.field-0 c.skip-record.new.self.at w h.count, ap (λ r. length r.now) {x = c.skip-record.new.self.text} {y = c.loop-reader.reader.text} h.same)
+    omega (arith, w, skipped_later c.loop-reader.reader.text.now c.loop-reader.reader.at c.in_default.field-0 c.skip_record.new.self.at w h.count, ap (λ r. length r.now) {x = c.skip_record.new.self.text} {y = c.loop-reader.reader.text} h.same)
 
 pub loop-reader-preserved : goal.loop-reader-preserved
 loop-reader-preserved c =
     let i = c.loop-reader.invariant in
-    let h = c.in-default.ensures in
+    let h = c.in_default.ensures in
     let l = bytes_left c.loop-reader.reader.text.now c.args.text.now c.loop-reader.reader.at i.0 c.loop-reader-test.ensures i.1.within in (
-      ap (λ r. r.now) {x = c.skip-record.new.self.text} {y = c.loop-reader.reader.text} h.same ∙ i.0,
-      walked_more c.args.text.now c.loop-reader.reader.at c.loop-reader.count c.in-default.field-0 c.skip-record.new.self.at l i.1 (subst (λ t. Skipped t c.loop-reader.reader.at c.in-default.field-0 c.skip-record.new.self.at) i.0 h.count),
+      ap (λ r. r.now) {x = c.skip_record.new.self.text} {y = c.loop-reader.reader.text} h.same ∙ i.0,
+      walked_more c.args.text.now c.loop-reader.reader.at c.loop-reader.count c.in_default.field-0 c.skip_record.new.self.at l i.1 (subst (λ t. Skipped t c.loop-reader.reader.at c.in_default.field-0 c.skip_record.new.self.at) i.0 h.count),
     )
 
 pub returns : goal.returns
