@@ -6,13 +6,13 @@ use Rattle.text_out.proofs.Stored.{line_length, further_length, line_more_le}
 use Rattle.text_out.proofs.line_len.Goals as goal
 
 pub loop-n-preserved : goal.loop-n-preserved
-loop-n-preserved c = omega (arith, c.loop-n.invariant, c.in-ok-len.ensures.1, c.width.ensures.value, further_length c.in-Some.rest.now c.loop-n.n-index c.loop-n-test.true)
+loop-n-preserved c = omega (arith, c.loop-n.invariant, c.in_ok-len.ensures.1, c.width.ensures.value, further_length c.in-Some.rest.now c.loop-n.n-index c.loop-n-test.true)
 
-pub returns-in-err-len : goal.returns-in-err-len
-returns-in-err-len c =
-    let long = c.in-err-len.ensures in
+pub returns-in_err-len : goal.returns-in_err-len
+returns-in_err-len c =
+    let long = c.in_err-len.ensures in
     let all = ap (λ l. length (line l)) c.in-Some.ensures.cases.0 in
-    rw c.from-residual.ensures (omega (arith, long, all, c.loop-n.invariant, c.width.ensures.value, c.width-len.ensures.value, line_more_le c.in-Some.first.now c.in-Some.rest.now c.loop-n.n-index c.loop-n-test.true))
+    rw c.from_residual.ensures (omega (arith, long, all, c.loop-n.invariant, c.width.ensures.value, c.width-len.ensures.value, line_more_le c.in-Some.first.now c.in-Some.rest.now c.loop-n.n-index c.loop-n-test.true))
 
 pub returns : goal.returns
 returns c =

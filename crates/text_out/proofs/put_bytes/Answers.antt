@@ -5,10 +5,10 @@ use Rattle.text_out.proofs.put_bytes.Goals as goal
 pub returns : goal.returns
 returns c =
     let old = c.args.buffer.now in
-    let now = c.copy-from-slice.new.self in
+    let now = c.copy_from_slice.new.self in
     let at = c.args.at in
     let end = at + length c.args.bytes.now in
-    let put = c.copy-from-slice.ensures.after in
+    let put = c.copy_from_slice.ensures.after in
     let long = ap length put in
     let p = c.requires in
     record {

@@ -63,8 +63,8 @@ returns-then-self-places c =
     let a = cases.add_no_place m u r low small free seat (omega (arith, s.counted)) in
     record { answer = sym a.answer; model = sym a.model; kept = refl }
 
-pub invariant-of-self : goal.invariant-of-self
-invariant-of-self c =
+pub invariant_of-self : goal.invariant_of-self
+invariant_of-self c =
     let s = c.args.self.now in
     let ws = s.words.now in
     let m = model_of ws in
@@ -76,8 +76,7 @@ invariant-of-self c =
     let counts : Counts (rows_of ws) s.members s.pairs = record { counted = s.counted; each = s.each; few = s.few; wide = s.wide; within = s.within } in
     let long : length s.members ≡ 64 = search rules in
     let k = counts_with (rows_of ws) s.members s.pairs u r counts long low small free (omega arith) _
-    (written_with (rows_of ws) _ u r _ _ small (rows_set ws u c.with-member.result (omega (arith, s.few))) c.with-member.ensures (sym (row_is ws u low))) in
-    (k.counted, (k.each, (k.few, (k.wide, (k.within, tt)))))
+    (written_with (rows_of ws) _ u r _ _ small (rows_set ws u c.with_member.result (omega (arith, s.few))) c.with_member.ensures (sym (row_is ws u low))) in record { counted = k.counted; each = k.each; few = k.few; wide = k.wide; within = k.within }
 
 pub returns : goal.returns
 returns c =
@@ -92,9 +91,9 @@ returns c =
     let seat : members m.rows r < seats_of m r = omega (arith, cases.seats_low m r small, cases.members_low m.rows r small, s.each r small) in
     let a = cases.add_new m u r low small free seat (omega (arith, s.counted)) in
     let first : u < 4096 = omega (arith, s.few) in
-    let all = written_with (rows_of ws) _ u r _ _ small (rows_set ws u c.with-member.result first) c.with-member.ensures (sym (row_is ws u low)) in
+    let all = written_with (rows_of ws) _ u r _ _ small (rows_set ws u c.with_member.result first) c.with_member.ensures (sym (row_is ws u low)) in
     record {
       answer = sym a.answer;
       model = model_with ws _ _ all (length-set m.rows u _) ∙ sym a.model;
-      kept = ap (λ t. record { spare = t; lenders = s.words.ghost_name ∷ [] }) (drop-set-lt 4096 ws u c.with-member.result first);
+      kept = ap (λ t. record { spare = t; lenders = s.words.ghost_name ∷ [] }) (drop-set-lt 4096 ws u c.with_member.result first);
     }

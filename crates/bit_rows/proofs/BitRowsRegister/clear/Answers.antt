@@ -5,15 +5,15 @@ use Rattle.bit_rows.specs.Table.{rows_of}
 use Rattle.bit_rows.proofs.Words.{length_rows, rows_set, model_with}
 use Rattle.bit_rows.proofs.BitRowsRegister.clear.Goals as goal
 
-pub empty-row-requires : goal.empty-row-requires
-empty-row-requires c = omega (arith, length_rows c.loop-user.self.words.now)
+pub empty_row-requires : goal.empty_row-requires
+empty_row-requires c = omega (arith, length_rows c.loop-user.self.words.now)
 
 pub loop-user-preserved : goal.loop-user-preserved
 loop-user-preserved c =
     let old = c.args.self.now.words.now in
     let ws = c.loop-user.self.words.now in
     let i = c.loop-user.user in
-    let e = c.empty-row.ensures in
+    let e = c.empty_row.ensures in
     let n = length_rows old in
     let low : i < 4096 = omega arith in
     let h : i < length (rows_of old) = omega arith in (

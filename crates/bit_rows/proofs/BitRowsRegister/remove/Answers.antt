@@ -37,8 +37,8 @@ returns-then-not-contains c =
     let a = cases.remove_free m u r (cases.held_false m u r free) in
     record { answer = sym a.answer; model = sym a.model; kept = refl }
 
-pub overflow-sub-self : goal.overflow-sub-self
-overflow-sub-self c =
+pub overflow_sub-self : goal.overflow_sub-self
+overflow_sub-self c =
     let s = c.args.self.now in
     let ws = s.words.now in
     let m = model_of ws in
@@ -51,8 +51,8 @@ overflow-sub-self c =
     let long : length s.members ≡ 64 = search rules in
     some_member (rows_of ws) s.members s.pairs u r counts long low small held
 
-pub overflow-sub-self-2 : goal.overflow-sub-self-2
-overflow-sub-self-2 c =
+pub overflow_sub-self-2 : goal.overflow_sub-self-2
+overflow_sub-self-2 c =
     let s = c.args.self.now in
     let ws = s.words.now in
     let m = model_of ws in
@@ -65,8 +65,8 @@ overflow-sub-self-2 c =
     let long : length s.members ≡ 64 = search rules in
     some_pair (rows_of ws) s.members s.pairs u r counts long low small held
 
-pub invariant-of-self : goal.invariant-of-self
-invariant-of-self c =
+pub invariant_of-self : goal.invariant_of-self
+invariant_of-self c =
     let s = c.args.self.now in
     let ws = s.words.now in
     let m = model_of ws in
@@ -78,8 +78,7 @@ invariant-of-self c =
     let counts : Counts (rows_of ws) s.members s.pairs = record { counted = s.counted; each = s.each; few = s.few; wide = s.wide; within = s.within } in
     let long : length s.members ≡ 64 = search rules in
     let k = counts_less (rows_of ws) s.members s.pairs u r counts long low small held _
-    (written_less (rows_of ws) _ u r (get_or ws u 0) small (rows_set ws u (bit_xor (get_or ws u 0) ((1 * 2 ^ r) % 2 ^ 64)) (omega (arith, s.few))) (sym (row_is ws u low))) in
-    (k.counted, (k.each, (k.few, (k.wide, (k.within, tt)))))
+    (written_less (rows_of ws) _ u r (get_or ws u 0) small (rows_set ws u (bit_xor (get_or ws u 0) ((1 * 2 ^ r) % 2 ^ 64)) (omega (arith, s.few))) (sym (row_is ws u low))) in record { counted = k.counted; each = k.each; few = k.few; wide = k.wide; within = k.within }
 
 pub returns : goal.returns
 returns c =

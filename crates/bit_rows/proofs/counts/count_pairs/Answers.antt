@@ -6,8 +6,8 @@ use Rattle.register.proofs.Tables.{pairs_more}
 use Rattle.bit_rows.proofs.Counting.{all_wide}
 use Rattle.bit_rows.proofs.counts.count_pairs.Goals as goal
 
-pub overflow-add-pairs : goal.overflow-add-pairs
-overflow-add-pairs c = omega (arith, ones-le 64 (get_or c.args.rows.now c.loop-word.word-index 0) (omega arith))
+pub overflow_add-pairs : goal.overflow_add-pairs
+overflow_add-pairs c = omega (arith, ones-le 64 (get_or c.args.rows.now c.loop-word.word-index 0) (omega arith))
 
 pub loop-word-preserved : goal.loop-word-preserved
 loop-word-preserved c =

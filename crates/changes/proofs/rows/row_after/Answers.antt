@@ -12,7 +12,7 @@ loop-change-preserved c =
     let cs = c.args.changes.now in
     let u = c.args.user in
     let i = c.loop-change.change-index in
-    ap (row_after u (drop (i + 1) cs)) c.made-of-after.ensures
+    ap (row_after u (drop (i + 1) cs)) c.made_of-after.ensures
     ∙ ap (λ xs. row_after u xs c.loop-change.after) (sym (drop_more cs i (Assignment 0 0) (omega arith)))
     ∙ c.loop-change.invariant
 

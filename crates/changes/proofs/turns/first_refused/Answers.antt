@@ -10,9 +10,9 @@ loop-i-preserved g c =
     let i = c.loop-i.i in
     let z : i - 0 ≡ i = omega arith in
     below_more (λ j. in_turn t cs j ≡ None) i c.loop-i.invariant
-    (sym (turn_checked t cs i c.users-users.result c.user-user.result c.row-after-roles.result c.row.result (take (i - 0) cs)
-    c.users-users.ensures c.user-user.ensures (ap (λ n. take n cs) z) c.row.ensures c.row-after-roles.ensures.ended)
-    ∙ sym c.in-default.ensures)
+    (sym (turn_checked t cs i c.users-users.result c.user-user.result c.row_after-roles.result c.row.result (take (i - 0) cs)
+    c.users-users.ensures c.user-user.ensures (ap (λ n. take n cs) z) c.row.ensures c.row_after-roles.ensures.ended)
+    ∙ sym c.in_default.ensures)
 
 pub returns-in-Err : goal.returns-in-Err
 returns-in-Err g c =
@@ -23,7 +23,7 @@ returns-in-Err g c =
     record {
       numbered = c.loop-i-test.true;
       before = c.loop-i.invariant;
-      refused = sym (turn_checked t cs i c.users-users.result c.user-user.result c.row-after-roles.result c.row.result (take (i - 0) cs)
-          c.users-users.ensures c.user-user.ensures (ap (λ n. take n cs) z) c.row.ensures c.row-after-roles.ensures.ended)
+      refused = sym (turn_checked t cs i c.users-users.result c.user-user.result c.row_after-roles.result c.row.result (take (i - 0) cs)
+          c.users-users.ensures c.user-user.ensures (ap (λ n. take n cs) z) c.row.ensures c.row_after-roles.ensures.ended)
           ∙ sym c.in-Err.ensures;
     }

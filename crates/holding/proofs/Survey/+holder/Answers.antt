@@ -4,13 +4,13 @@ use Rattle.std.proofs.lemmas.Nat.{one_shl}
 use Rattle.terms.specs.Sets.{In}
 use Rattle.holding.proofs.Holders.{holder_kept, holder_done, holder_take, holder_drop, holder_none, own_grant}
 use Rattle.holding.proofs.Survey.+holder.Goals as goal
-use Rattle.holding.proofs.Survey.+holder.Goals.{then-contains+in-default-holder, else-contains}
+use Rattle.holding.proofs.Survey.+holder.Goals.{then-contains+in_default-holder, else-contains}
 
 pub returns-then-not-satisfies : goal.returns-then-not-satisfies
 returns-then-not-satisfies t c w h = false≢true (c.if-not-satisfies.ensures.1 (holder_kept _ _ _ w h))
 
-pub returns-in-default : goal.returns-in-default
-returns-in-default t c = holder_done _ _ _ (c.urgent.ensures.some c.in-default.ensures) (c.if-not-satisfies.ensures.0 refl)
+pub returns-in_default : goal.returns-in_default
+returns-in_default t c = holder_done _ _ _ (c.urgent.ensures.some c.in_default.ensures) (c.if-not-satisfies.ensures.0 refl)
 
 pub returns-then-beyond : goal.returns-then-beyond
 returns-then-beyond t c = c.if-beyond.ensures refl
@@ -31,7 +31,7 @@ returns-in-Some-holder t c =
 
 pub loop-r-preserved : goal.loop-r-preserved
 loop-r-preserved t c = below_more _ _ c.loop-r.invariant (elim c.if-contains.branch [
-  | then-contains+in-default-holder v ↦ λ g w h i. (rw (one_shl c.loop-r.r 64 (omega arith)) at v.in-default-holder.ensures) w (holder_drop _ _ _ c.loop-r.r _ _ w v.difference-rest.ensures i h)
+  | then-contains+in_default-holder v ↦ λ g w h i. (rw (one_shl c.loop-r.r 64 (omega arith)) at v.in_default-holder.ensures) w (holder_drop _ _ _ c.loop-r.r _ _ w v.difference-rest.ensures i h)
   | else-contains v ↦ λ g w h i. both_ways _ v.if-contains.false (c.contains.ensures.no (subst (In c.in-Some.k) (sym c.granted.ensures.value) g))
 ])
 

@@ -10,8 +10,8 @@ use Rattle.plan.proofs.Tables.{some_at}
 use Rattle.holding.proofs.Bounds.{room, fresh_limit, fresh_holds, fresh_bound}
 use Rattle.holding.proofs.bounding.beyond.Goals as goal
 
-pub overflow-cast-here : goal.overflow-cast-here
-overflow-cast-here c = omega (arith, ones-le 64 c.difference-here.result c.difference-here.type-inv)
+pub overflow_cast-here : goal.overflow_cast-here
+overflow_cast-here c = omega (arith, ones-le 64 c.difference-here.result c.difference-here.type_inv)
 
 pub returns-then-here-slack : goal.returns-then-here-slack
 returns-then-here-slack c _ w h =
@@ -20,13 +20,13 @@ returns-then-here-slack c _ w h =
     let i = c.loop-i.i in
     let here = c.difference-here.result in
     let each = c.most-each.result in
-    let slack = c.saturating-sub-slack.result in
+    let slack = c.saturating_sub-slack.result in
     let d = c.in-Some.c in
     let roles = (constraint_at p i).roles in
-    let low : i < constraint_count p = omega (arith, c.loop-i-test.true, c.constraint-count-i-end.ensures) in
-    let is = some_at i (constraint_count p) (constraint_at p i) d low (sym c.in-Some.is ∙ c.constraint-at.ensures) in
+    let low : i < constraint_count p = omega (arith, c.loop-i-test.true, c.constraint_count-i-end.ensures) in
+    let is = some_at i (constraint_count p) (constraint_at p i) d low (sym c.in-Some.is ∙ c.constraint_at.ensures) in
     let e : slack ≡ d.limit - 1 - ones (bit_and (authorised p word) d.roles) =
-    omega (arith, c.saturating-sub-slack.ensures, c.saturating-sub.ensures, ap (λ x. ones (bit_and x d.roles)) c.authorised-all.ensures.value) in
+    omega (arith, c.saturating_sub-slack.ensures, c.saturating_sub.ensures, ap (λ x. ones (bit_and x d.roles)) c.authorised-all.ensures.value) in
     let few : ones here ≤ slack * each = fresh_bound p word c.args.wanted w h slack roles here each
     (omega (arith, room p word c.args.wanted i d low is slack e, fresh_limit p word c.args.wanted w h i low))
     (fresh_holds p word c.args.wanted w h roles here each

@@ -8,8 +8,11 @@ use Rattle.plan.specs.Authority.{authorised}
 use Rattle.holding.proofs.Bounds.{fresh_none, fresh_holds, fresh_bound}
 use Rattle.holding.proofs.bounding.together.Goals as goal
 
-pub overflow-cast-result : goal.overflow-cast-result
-overflow-cast-result c = omega (arith, ones-le 64 c.difference-here.result c.difference-here.type-inv)
+pub overflow_cast-result : goal.overflow_cast-result
+overflow_cast-result c = omega (arith, ones-le 64 c.difference-here.result c.difference-here.type_inv)
+
+pub name_more-first-requires-clause-right : goal.name_more-first-requires-clause-right
+name_more-first-requires-clause-right c w h = omega (arith, fresh_none (authorised c.args.plan.now w) (authorised c.args.plan.now c.args.word))
 
 pub returns : goal.returns
 returns c e w h =
@@ -18,8 +21,8 @@ returns c e w h =
     let wanted = c.args.wanted in
     let here = c.difference-here.result in
     let each = c.most-each.result in
-    let named = c.name-more-named.result in
-    let few : ones here ≤ named.spare * each = fresh_bound p word wanted w h named.spare named.roles here each (c.name-more-named.ensures.right w h)
+    let named = c.name_more-named.result in
+    let few : ones here ≤ named.spare * each = fresh_bound p word wanted w h named.spare named.roles here each (c.name_more-named.ensures.right w h)
     (fresh_holds p word wanted w h named.roles here each
     (λ k j. c.difference-open.ensures.inside k (c.difference-here.ensures.inside k j))
     (λ k j l. c.difference-open.ensures.apart k (subst (In k) (sym c.held.ensures.value) l) (c.difference-here.ensures.inside k j))
