@@ -2,5 +2,5 @@ use Rattle.std.proofs.Common.{length, arith}
 use Rattle.plan.proofs.Histories.{policies_counted}
 use Rattle.judge.proofs.JudgedPlan.new.Goals as goal
 
-pub invariant-of-result : goal.invariant-of-result
-invariant-of-result c = ((λ b. omega (arith, b.numbered, policies_counted _ _ c.new.ensures)), tt)
+pub invariant_of-result : goal.invariant_of-result
+invariant_of-result c = record { enforced = (λ b. omega (arith, b.numbered, policies_counted _ _ c.new.ensures)) }

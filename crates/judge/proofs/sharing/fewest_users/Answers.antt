@@ -27,9 +27,9 @@ returns-in-Some-share c =
 pub loop-n-preserved : goal.loop-n-preserved
 loop-n-preserved c = (
   omega arith,
-  more_users _ c.in-Some.low _ (one_shl c.in-Some.low 64 c.in-Some.ensures.low) c.loop-n.n c.args.wanted _ c.difference-rest.ensures c.in-Some.ensures.member c.in-default-share.ensures.answer,
+  more_users _ c.in-Some.low _ (one_shl c.in-Some.low 64 c.in-Some.ensures.low) c.loop-n.n c.args.wanted _ c.difference-rest.ensures c.in-Some.ensures.member c.in_default-share.ensures.answer,
   c.share.ensures.memo,
 )
 
-pub overflow-add-n-in-loop-n : goal.overflow-add-n-in-loop-n
-overflow-add-n-in-loop-n c = omega (arith, c.loop-n.invariant.0)
+pub overflow_add-n-in-loop-n : goal.overflow_add-n-in-loop-n
+overflow_add-n-in-loop-n c = omega (arith, c.loop-n.invariant.0)

@@ -16,7 +16,7 @@ loop-at-preserved c =
     let b = c.in-Some.byte in
     let n = c.in-Some.next in
     let u = c.in-Some.ensures in (
-      λ bytes s. subst (λ l. Spells ts 0 (l ++ bytes)) (sym c.in-ok-push.ensures.items) (spells_more ts (vec_items c.loop-at.bytes) at b n u c.loop-at.invariant.0 bytes s),
+      λ bytes s. subst (λ l. Spells ts 0 (l ++ bytes)) (sym c.in_ok-push.ensures.items) (spells_more ts (vec_items c.loop-at.bytes) at b n u c.loop-at.invariant.0 bytes s),
       λ bytes s. let rest = c.loop-at.invariant.1 bytes s in spells_after ts at b n rest.0 c.loop-at-test.true u rest.1,
     )
 
@@ -25,10 +25,10 @@ loop-at-smaller c =
     let later = unit_later c.args.typed.now c.loop-at.at c.in-Some.byte c.in-Some.next c.in-Some.ensures in
     omega (arith, later, c.loop-at-test.true)
 
-pub returns-in-default : goal.returns-in-default
-returns-in-default c bytes s =
+pub returns-in_default : goal.returns-in_default
+returns-in_default c bytes s =
     let rest = c.loop-at.invariant.1 bytes s in
-    spells_not c.args.typed.now c.loop-at.at rest.0 c.loop-at-test.true c.in-default.ensures rest.1
+    spells_not c.args.typed.now c.loop-at.at rest.0 c.loop-at-test.true c.in_default.ensures rest.1
 
 pub returns : goal.returns
 returns c =
