@@ -50,7 +50,7 @@ impl<'a> Register for FlagTable<'a> {
 
     fn pairs(&self) -> u32 {
         let mut pairs = 0;
-        for user in 0..FlagTableRegister::users(self) {
+        for user in 0..<FlagTable<'_> as Register>::users(self) {
             pairs += <FlagTable<'_> as Register>::row(self, user).count_ones();
         }
         pairs
@@ -61,7 +61,7 @@ impl<'a> Register for FlagTable<'a> {
             return 0;
         }
         let mut members = 0;
-        for user in 0..FlagTableRegister::users(self) {
+        for user in 0..<FlagTable<'_> as Register>::users(self) {
             if self.flags[(64 * user + role) as usize] {
                 members += 1;
             }

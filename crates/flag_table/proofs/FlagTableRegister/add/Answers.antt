@@ -67,11 +67,10 @@ returns-then-pairs-places c =
     let a = cases.add_no_place m u r (omega arith) small free seat (omega (arith, c.pairs.ensures, c.places.ensures)) in
     record { answer = sym a.answer; model = sym a.model; kept = refl }
 
-pub invariant-of-self : goal.invariant-of-self
-invariant-of-self c =
+pub invariant_of-self : goal.invariant_of-self
+invariant_of-self c =
     let s = c.args.self.now in
-    let k = flags_sound (set s.flags.now (64 * c.args.user + c.args.role) true) s.seats in
-    (k.few, (k.wide, (k.within, tt)))
+    let k = flags_sound (set s.flags.now (64 * c.args.user + c.args.role) true) s.seats in record { few = k.few; wide = k.wide; within = k.within }
 
 pub returns : goal.returns
 returns c =

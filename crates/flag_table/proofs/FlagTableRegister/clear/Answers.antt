@@ -8,10 +8,9 @@ use Rattle.flag_table.proofs.FlagTableRegister.clear.Goals as goal
 pub bounds-self-flag : goal.bounds-self-flag
 bounds-self-flag c = let fs = c.args.self.now.flags.now in omega (arith, length_from (users_in fs) fs)
 
-pub invariant-of-self : goal.invariant-of-self
-invariant-of-self c =
-    let s = flags_sound (set c.loop-flag.self.flags.now c.loop-flag.flag false) c.loop-flag.self.seats in
-    (s.few, (s.wide, (s.within, tt)))
+pub invariant_of-self : goal.invariant_of-self
+invariant_of-self c =
+    let s = flags_sound (set c.loop-flag.self.flags.now c.loop-flag.flag false) c.loop-flag.self.seats in record { few = s.few; wide = s.wide; within = s.within }
 
 pub loop-flag-preserved : goal.loop-flag-preserved
 loop-flag-preserved c =

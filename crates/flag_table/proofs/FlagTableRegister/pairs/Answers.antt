@@ -6,8 +6,8 @@ use Rattle.register.proofs.Tables.{pairs_more}
 use Rattle.flag_table.specs.Flags.{rows_of}
 use Rattle.flag_table.proofs.FlagTableRegister.pairs.Goals as goal
 
-pub overflow-add-pairs : goal.overflow-add-pairs
-overflow-add-pairs c = omega (arith, ones-le 64 c.row.result (omega arith), c.args.self.now.few)
+pub overflow_add-pairs : goal.overflow_add-pairs
+overflow_add-pairs c = omega (arith, ones-le 64 c.row.result (omega arith), c.args.self.now.few)
 
 pub loop-user-preserved : goal.loop-user-preserved
 loop-user-preserved c =

@@ -36,11 +36,10 @@ returns-then-not-self-flag c =
     let a = cases.remove_free m u r (cases.held_false m u r free) in
     record { answer = sym a.answer; model = sym a.model; kept = refl }
 
-pub invariant-of-self : goal.invariant-of-self
-invariant-of-self c =
+pub invariant_of-self : goal.invariant_of-self
+invariant_of-self c =
     let s = c.args.self.now in
-    let k = flags_sound (set s.flags.now (64 * c.args.user + c.args.role) false) s.seats in
-    (k.few, (k.wide, (k.within, tt)))
+    let k = flags_sound (set s.flags.now (64 * c.args.user + c.args.role) false) s.seats in record { few = k.few; wide = k.wide; within = k.within }
 
 pub returns : goal.returns
 returns c =

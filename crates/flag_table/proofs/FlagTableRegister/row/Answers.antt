@@ -24,7 +24,7 @@ loop-role-preserved c =
     let i = c.loop-role.role in
     let len = length_from (users_in fs) fs in
     elim c.if-self-user.branch [
-      | then-self-user w ↦ read_set (row (rows_of fs) u) c.loop-role.row c.if-self-user.row i (omega arith) (w.row-is ∙ w.with-member-row.ensures)
+      | then-self-user w ↦ read_set (row (rows_of fs) u) c.loop-role.row c.if-self-user.row i (omega arith) (w.row-is ∙ w.with_member-row.ensures)
           (flag_true (users_in fs) fs u i (omega arith) (omega arith) (omega arith) w.if-self-user.true) c.loop-role.invariant
       | else-self-user w ↦ subst (λ x. Read (row (rows_of fs) u) x (i + 1)) (sym w.row-is)
           (read_off (row (rows_of fs) u) c.loop-role.row i (flag_off (users_in fs) fs u i (omega arith) (omega arith) (omega arith) w.if-self-user.false) c.loop-role.invariant)

@@ -22,12 +22,12 @@ loop-member-preserved g c =
       | then-contains+then-parted+in_ok-write-2 w ↦
           let m = c.contains.ensures.yes w.if-contains.true in
           let part = ap (λ t. gap t ++ decimal i) (sym w.if-parted.true ∙ inv.1) in
-          let put = one_more took f c.loop-member.f w.write-then-parted.new.self i set (32 ∷ decimal i) m part inv.0 (λ p. w.in_ok-write-2.ensures.shows p refl) in
+          let put = one_more took f c.loop-member.f w.write-then-parted.new.self i set (32 ∷ decimal i) m part inv.0 (λ p. w.in_ok-write-2.ensures.writes p refl) in
           ((λ p. subst (λ h. HasWritten took f (listed (i + 1) set) h) (sym w.f-is) (put p)), w.parted-is ∙ sym (below_in i set m))
       | then-contains+else-parted+in_ok-write-3 w ↦
           let m = c.contains.ensures.yes w.if-contains.true in
           let part = ap (λ t. gap t ++ decimal i) (sym w.if-parted.false ∙ inv.1) in
-          let put = one_more took f c.loop-member.f w.write-else-parted.new.self i set (decimal i) m part inv.0 (λ p. w.in_ok-write-3.ensures.shows p refl) in
+          let put = one_more took f c.loop-member.f w.write-else-parted.new.self i set (decimal i) m part inv.0 (λ p. w.in_ok-write-3.ensures.writes p refl) in
           ((λ p. subst (λ h. HasWritten took f (listed (i + 1) set) h) (sym w.f-is) (put p)), w.parted-is ∙ sym (below_in i set m))
       | else-contains w ↦
           let out : In i set → ⊥ = λ m. both_ways c.contains.result w.if-contains.false (c.contains.ensures.no m) in
@@ -37,4 +37,4 @@ loop-member-preserved g c =
 
 pub returns-clause-writes : goal.returns-clause-writes
 returns-clause-writes g c plain ok =
-    whole g.W.Write.write_str_gives c.args.f.now c.write.new.self c.loop-member.f c.write-2.new.self c.loop-member.member-counter c.args.self.now.set (omega arith) (λ p. c.in_ok-write.ensures.shows p refl) c.loop-member.invariant.0 (λ p. c.write-2.ensures.writes p ok) plain
+    whole g.W.Write.write_str_gives c.args.f.now c.write.new.self c.loop-member.f c.write-2.new.self c.loop-member.member-counter c.args.self.now.set (omega arith) (λ p. c.in_ok-write.ensures.writes p refl) c.loop-member.invariant.0 (λ p. c.write-2.ensures.writes p ok) plain
