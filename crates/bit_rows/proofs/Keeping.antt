@@ -1,5 +1,5 @@
 -- The counts of rows, and how a pair more, a pair less and a row less keep them. Assumes nothing.
-use Rattle.std.proofs.Common.{◌≡◌, ℕ, ◌+◌, ◌-◌, ◌*◌, ◌%◌, ◌^◌, ◌<◌, ◌≤◌, cond, ltb, List, length, get_or, set, sym, refl, ap, ◌∙◌, subst, inl, inr, arith}
+use Rattle.std.proofs.Common.{◌≡◌, ℕ, ◌+◌, ◌-◌, ◌*◌, ◌%◌, ◌^◌, ◌<◌, ◌≤◌, cond, ltb, List, length, get_or, set, sym, ap, ◌∙◌, subst, inl, inr, arith}
 use lib.Bits.{bit_or, bit_xor, or_lt, xor_lt}
 use lib.Count.{ones}
 use Rattle.std.proofs.lemmas.Nat.{pow_pos, pow_below, one_shl}

@@ -1,10 +1,10 @@
 -- The rows of a table of words: how many, and what a write does to them. Assumes nothing.
-use Rattle.std.proofs.Common.{◌≡◌, ℕ, ◌*◌, ◌<◌, ◌≤◌, min, List, length, get_or, take, drop, set, sym, refl, ap, ◌∙◌, inl, inr, arith}
+use Rattle.std.proofs.Common.{◌≡◌, ℕ, ◌*◌, ◌<◌, min, List, length, get_or, take, set, sym, ap, ◌∙◌, inl, inr, arith}
 use lib.Seq.{take-set-lt}
 use Rattle.std.proofs.lemmas.List.{get_or-take, length-take, take_all}
 use Rattle.std.proofs.lemmas.Bool.{cases_lt}
 use Rattle.register.specs.Pairs.{row}
-use Rattle.register.specs.Model.{Model, with_rows}
+use Rattle.register.specs.Model.{with_rows}
 use Rattle.bit_rows.specs.Table.{rows_of, model_of}
 
 pub length_rows : (ws : List ℕ) → length (rows_of ws) ≡ min 4096 (length ws)

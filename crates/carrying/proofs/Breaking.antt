@@ -1,5 +1,5 @@
 -- The first constraint that a user breaks, as a row of a table and as a relation. Assumes nothing.
-use Rattle.std.proofs.Common.{◌≡◌, ℕ, ◌<◌, true, false, Some, None, Option, MatchOption}
+use Rattle.std.proofs.Common.{◌≡◌, ℕ, ◌<◌, false, Some, None, Option, MatchOption}
 use lib.Bits.{bit_and}
 use lib.Count.{ones}
 use Rattle.std.specs.Option.{option_map}

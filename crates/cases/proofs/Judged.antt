@@ -1,5 +1,5 @@
 -- The worked cases of judging. Assumes nothing.
-use Rattle.std.proofs.Common.{◌≡◌, ℕ, zero, suc, ◌+◌, ◌^◌, ◌<◌, ◌≤◌, false, ◌||◌, eqb, ltb, leb, ◌⊎◌, List, [], ◌∷◌, ◌++◌, length, get_or, take, None, sym, refl, ap, ◌∙◌, subst, inl, inr, zero-le, le_trans, arith, lit<}
+use Rattle.std.proofs.Common.{◌≡◌, ℕ, zero, suc, ◌^◌, ◌<◌, ◌≤◌, false, ◌||◌, ltb, leb, List, [], ◌∷◌, length, get_or, None, sym, refl, ap, ◌∙◌, subst, inl, inr, le_trans, arith, lit<}
 use lib.Bits.{bit_and, bit_or}
 use lib.Count.{ones}
 use Rattle.std.proofs.lemmas.List.{get_or-take}
@@ -8,7 +8,7 @@ use Rattle.terms.specs.Sets.{bit, In, Within}
 use Rattle.terms.proofs.Bits.{bit_high, none_in, in_and, in_both, in_or, in_or_l, in_or_r}
 use Rattle.terms.proofs.Sizes.{ones_none, ones_mono, ones_either}
 use Rattle.plan.specs.Authority.{Senior, Granted, authorised, held, policy_count, policy_at, constraint_count, constraint_at, Satisfies, AllSatisfy, held_by}
-use Rattle.plan.specs.Enforcing.{Covered, Breachable, Breach, Enforces}
+use Rattle.plan.specs.Enforcing.{Covered, Breachable, Enforces}
 use Rattle.plan.specs.History.{Means, rows, Reaches, itself, step, Listed, policies, constraints, grants, seniors}
 use Rattle.plan.specs.declared.Plan.{Plan}
 use Rattle.plan.specs.declared.Policy.{Policy}

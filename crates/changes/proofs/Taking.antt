@@ -1,10 +1,10 @@
 -- A change checked by its user's row is checked in its turn. Assumes nothing.
-use Rattle.std.proofs.Common.{◌≡◌, ℕ, ◌<◌, ◌≤◌, List, [], ◌∷◌, length, take, Some, sym, refl, ap, ◌∙◌, subst, inl, inr}
+use Rattle.std.proofs.Common.{◌≡◌, ℕ, ◌<◌, ◌≤◌, List, [], length, take, Some, sym, refl, ap, ◌∙◌, subst, inl, inr}
 use Rattle.std.proofs.lemmas.Bool.{cases_lt, le-leb}
 use Rattle.terms.specs.Refusals.{refusal}
 use Rattle.register.specs.Pairs.{row}
 use Rattle.changes.specs.Ends.{user_of, ended}
-use Rattle.changes.specs.Turns.{change_rows, turn_rows, change_at, in_turn}
+use Rattle.changes.specs.Turns.{change_rows, change_at, in_turn}
 use Rattle.changes.specs.declared.Change.{Change}
 use Rattle.changes.specs.declared.Change.TheVariants.{Assignment, Withdrawal}
 use Rattle.changes.proofs.After.{length_ended}

@@ -1,5 +1,5 @@
 -- What is accepted of a log with one entry more, and of a log whose answers were written anew. Assumes nothing.
-use Rattle.std.proofs.Common.{◌≡◌, ℕ, List, [], ◌∷◌, ◌++◌, length, Vec, sym, ap, ◌∙◌, subst, append_assoc, append-nil}
+use Rattle.std.proofs.Common.{◌≡◌, List, [], ◌∷◌, ◌++◌, length, Vec, sym, ap, ◌∙◌, subst, append_assoc, append-nil}
 use mathlib.Core.Logic.{∥∥₁_map}
 use Rattle.std.specs.Vec.{with_items}
 use Rattle.std.proofs.lemmas.List.{with_items_is}

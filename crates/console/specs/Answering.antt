@@ -1,5 +1,5 @@
 -- Which answer the console gives for what the service answered.
-use Rattle.std.specs.Prelude.{Bool, true, false, Ok, Err, Result}
+use Rattle.std.specs.Prelude.{Ok, Err, Result}
 use Rattle.plan.specs.declared.PlanFault.{PlanFault}
 use Rattle.console.specs.declared.answers.Answer.{Answer}
 use Rattle.console.specs.declared.answers.Answer.TheVariants as answer

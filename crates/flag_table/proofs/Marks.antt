@@ -1,13 +1,13 @@
 -- Setting and taking away flags, and reading a row flag after flag. Assumes nothing.
-use Rattle.std.proofs.Common.{◌≡◌, ℕ, ◌+◌, ◌*◌, ◌/◌, ◌^◌, ◌<◌, ◌≤◌, min, Bool, true, false, cond, ltb, List, map, length, get_or, take, drop, set, replicate, sym, refl, ap, ◌∙◌, subst, inl, inr, arith, drop-set-lt}
+use Rattle.std.proofs.Common.{◌≡◌, ℕ, ◌+◌, ◌*◌, ◌/◌, ◌^◌, ◌<◌, ◌≤◌, min, Bool, true, false, cond, ltb, List, map, length, get_or, drop, set, replicate, sym, ap, ◌∙◌, subst, inl, inr, arith}
 use lib.Bits.{bit_or, bit_xor, or_lt, xor_lt}
 use Rattle.std.proofs.lemmas.Nat.{pow_pos, pow_below}
 use Rattle.std.proofs.lemmas.List.{get_or-set_same, get_or-set_other, length-set, length-replicate}
 use Rattle.std.proofs.lemmas.Bool.{cases_eq, cases_lt, cond-true, lt-ltb}
 use Rattle.terms.specs.Sets.{bit, In}
 use Rattle.terms.proofs.Bits.{bit_zero, bit_high, same_digits, with_new, with_other}
-use Rattle.register.specs.Pairs.{row, Has, pairs, with_pair, less_pair}
-use Rattle.register.specs.Model.{Model, Sound, with_rows}
+use Rattle.register.specs.Pairs.{row, Has, with_pair, less_pair}
+use Rattle.register.specs.Model.{Sound, with_rows}
 use Rattle.register.proofs.Tables.{each_row, same_rows, none_row, pairs_most}
 use Rattle.register.proofs.Tables as t
 use Rattle.flag_table.specs.Flags.{rows_from, users_in, rows_of, model_of, spare_of}

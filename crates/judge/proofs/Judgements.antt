@@ -2,7 +2,7 @@
 use Rattle.std.proofs.Common.{◌≡◌, ℕ, ◌<◌, ◌≤◌, cond, ltb, List, [], ◌∷◌, length, Some, None, Option, subst, arith, length-take, MatchOption}
 use Rattle.plan.proofs.Tables.{some_at, none_at}
 use Rattle.plan.specs.Authority.{policy_count, policy_at, AllSatisfy}
-use Rattle.plan.specs.Enforcing.{Among, nobody, left_out, chosen, Covered, Enforces, Enforced, Breachable}
+use Rattle.plan.specs.Enforcing.{Among, nobody, left_out, chosen, Enforces, Enforced, Breachable}
 use Rattle.plan.specs.declared.Plan.{Plan}
 use Rattle.plan.specs.declared.Policy.{Policy}
 use Rattle.judge.specs.Search.{Covers, Fewest}

@@ -1,5 +1,5 @@
 -- What judging answers, and what the witness of a refused plan shows.
-use Rattle.std.specs.Prelude.{◌≡◌, ℕ, ◌<◌, ◌≤◌, true, false, List, [], length, take}
+use Rattle.std.specs.Prelude.{◌≡◌, ℕ, ◌<◌, ◌≤◌, List, [], length, take}
 use Rattle.terms.specs.Refusals.{Refusal, refusal}
 use Rattle.plan.specs.Authority.{policy_count, policy_at, AllSatisfy}
 use Rattle.plan.specs.Enforcing.{Among, Covered, Enforces}

@@ -1,10 +1,10 @@
 -- A table is its rows and what lies past them. Assumes nothing.
-use Rattle.std.proofs.Common.{◌≡◌, ℕ, List, ◌++◌, length, take, drop, replicate, sym, ap, ◌∙◌}
+use Rattle.std.proofs.Common.{◌≡◌, ℕ, List, ◌++◌, length, drop, replicate, sym, ap, ◌∙◌}
 use Rattle.std.proofs.lemmas.List.{take-append-drop, length-replicate}
 use Rattle.register.specs.Changes.{cleared}
 use Rattle.register.specs.Layer.{seated}
 use Rattle.register.specs.Model.{Model, with_rows}
-use Rattle.bit_rows.specs.Table.{rows_of, model_of}
+use Rattle.bit_rows.specs.Table.{rows_of}
 use Rattle.lending.specs.Whole.{whole}
 
 pub table_is : (before after back : List ℕ) (m : Model) → back ≡ after → rows_of after ≡ m.rows → drop 4096 after ≡ drop 4096 before → back ≡ whole m before

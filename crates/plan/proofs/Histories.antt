@@ -1,5 +1,5 @@
 -- One addition more to a plan. Assumes nothing.
-use Rattle.std.proofs.Common.{◌≡◌, ℕ, ◌+◌, ◌^◌, ◌<◌, ◌≤◌, Bool, true, false, not, ◌&&◌, ◌||◌, eqb, ltb, leb, ◌≢◌, ◌⊎◌, List, [], ◌∷◌, ◌++◌, map, length, get_or, take, set, is_ok, Ok, Err, Result, sym, refl, ap, ◌∙◌, subst, inl, inr, arith, length-take, below_more}
+use Rattle.std.proofs.Common.{◌≡◌, ℕ, ◌+◌, ◌^◌, ◌<◌, ◌≤◌, true, false, not, ◌&&◌, ◌||◌, eqb, ltb, leb, ◌≢◌, ◌⊎◌, List, [], ◌∷◌, ◌++◌, length, get_or, take, set, is_ok, Ok, Err, Result, sym, refl, ap, ◌∙◌, subst, inl, inr, arith, length-take, below_more}
 use lib.Bits.{bit_or}
 use lib.Count.{ones}
 use Rattle.std.specs.Result.{result_err}
@@ -8,11 +8,10 @@ use Rattle.std.proofs.lemmas.Bool.{cases_eq, cases_lt}
 use Rattle.std.proofs.lemmas.List.{append-nil, append_assoc, get_or-set_same, get_or-set_other, take-set-le, take_more_set, map-set, get_or-map, set-get_or, get_or_past}
 use Rattle.terms.specs.Sets.{bit, In}
 use Rattle.plan.specs.Order.{Over, Reflexive, Transitive}
-use Rattle.plan.specs.Refusing.{shown, senior_rows, policy_rows, constraint_rows}
+use Rattle.plan.specs.Refusing.{shown}
 use Rattle.terms.specs.Refusals.{when, first_of, refusal}
-use Rattle.plan.specs.Authority.{Senior, Granted}
 use Rattle.plan.specs.Adding.{SeniorAdded}
-use Rattle.plan.specs.History.{rows, Added, additions, made, accepted, seniors, grants, policies, constraints, Listed, Reaches, itself, step, Means, entry, Answered}
+use Rattle.plan.specs.History.{rows, Added, additions, made, accepted, seniors, grants, policies, constraints, Listed, Reaches, itself, step, Means, Answered}
 use Rattle.plan.specs.declared.Plan.{Plan}
 use Rattle.plan.specs.declared.PlanFault.{PlanFault}
 use Rattle.plan.specs.declared.Addition.{Addition}

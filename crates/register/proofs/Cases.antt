@@ -1,9 +1,9 @@
 -- Which row of add applies, what add and remove leave in each case, and nothing else of the definitions. Assumes nothing.
-use Rattle.std.proofs.Common.{◌≡◌, ℕ, ◌<◌, ◌≤◌, Bool, true, false, cond, not, ◌&&◌, eqb, ltb, leb, ◌⊎◌, List, [], ◌∷◌, length, Some, None, Option, sym, refl, ap, ◌∙◌, inl, inr}
+use Rattle.std.proofs.Common.{◌≡◌, ℕ, ◌<◌, ◌≤◌, Bool, true, false, cond, not, ltb, leb, ◌⊎◌, List, [], ◌∷◌, Some, None, Option, refl, ap, ◌∙◌, inl, inr}
 use Rattle.std.proofs.lemmas.Bool.{cases_lt, cases_eq, lt-ltb, le-ltb, le-leb, lt-leb, eq-eqb, ne_eqb, and_from, and_left, and_right}
 use Rattle.terms.specs.Sets.{bit}
 use Rattle.terms.specs.Refusals.{Refusal, refusal, when, first_of}
-use Rattle.register.specs.Pairs.{row, Has, has, pairs, having, members, with_pair, less_pair}
+use Rattle.register.specs.Pairs.{row, Has, pairs, having, members, with_pair, less_pair}
 use Rattle.register.specs.Model.{Model, users_of, seats_of, with_rows, inside, holds}
 use Rattle.register.specs.Changes.{new_pair_rows, unless, add_rows, added, removed}
 

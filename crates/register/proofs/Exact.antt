@@ -1,13 +1,13 @@
 -- The laws of a register, from its soundness.
-use Rattle.std.proofs.Common.{◌≡◌, ℕ, ◌+◌, ◌^◌, ◌<◌, ◌≤◌, Bool, true, false, cond, ltb, ◌⊎◌, List, [], ◌∷◌, length, set, replicate, Some, None, Option, sym, refl, ap, ◌∙◌, subst, inl, inr, arith}
+use Rattle.std.proofs.Common.{◌≡◌, ℕ, ◌^◌, ◌<◌, ◌≤◌, Bool, true, false, cond, ltb, ◌⊎◌, List, [], ◌∷◌, length, set, Some, None, Option, sym, refl, ◌∙◌, subst, inl, inr, arith}
 use lib.Bits.{bit_or, bit_xor, or_lt, xor_lt}
 use Rattle.std.proofs.lemmas.Nat.{pow_pos, pow_below}
 use Rattle.std.proofs.lemmas.List.{length-set, length-replicate}
-use Rattle.std.proofs.lemmas.Bool.{cases_eq, cases_lt, cases_Bool, lt-ltb, le-ltb, ltb-true, eqb-true, and_parts}
+use Rattle.std.proofs.lemmas.Bool.{cases_eq, cases_lt, ltb-true, eqb-true, and_parts}
 use Rattle.terms.specs.Sets.{bit, In}
 use Rattle.terms.specs.Refusals.{Refusal, refusal}
 use Rattle.terms.proofs.Bits.{bit_high, none_in}
-use Rattle.register.specs.Pairs.{row, Has, has, pairs, having, members, with_pair, less_pair, emptied}
+use Rattle.register.specs.Pairs.{row, Has, has, pairs, having, members, with_pair, emptied}
 use Rattle.register.specs.Model.{Model, Sound, users_of, seats_of, with_rows, inside, holds}
 use Rattle.register.specs.Changes.{add_rows, added, removed, cleared}
 use Rattle.register.specs.Fits.{Fits, Part, Lasts, AddsExactly, RemovesExactly, ClearsAll, Laws}

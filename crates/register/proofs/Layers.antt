@@ -1,6 +1,6 @@
 -- A layer of seats over a register: when it decides by itself, and when the register below decides. Assumes nothing.
-use Rattle.std.proofs.Common.{◌≡◌, ℕ, ◌<◌, ◌≤◌, min, Bool, true, false, cond, not, ◌&&◌, ltb, leb, ◌⊎◌, List, [], ◌∷◌, Some, None, Option, sym, refl, ap, ◌∙◌, inl, inr, arith}
-use Rattle.std.proofs.lemmas.Bool.{lt-ltb, ltb-true, le-leb, leb-true, eq-eqb, ne_eqb, eqb-false, cases_lt, both_ways, not-true, not_from_false, and_from, and_parts}
+use Rattle.std.proofs.Common.{◌≡◌, ℕ, ◌<◌, ◌≤◌, min, Bool, true, false, not, ◌&&◌, ltb, leb, List, [], ◌∷◌, Some, None, Option, sym, refl, ap, ◌∙◌, inl, inr, arith}
+use Rattle.std.proofs.lemmas.Bool.{lt-ltb, ltb-true, le-leb, leb-true, ne_eqb, eqb-false, cases_lt, both_ways, not-true, not_from_false, and_from, and_parts}
 use Rattle.terms.specs.Sets.{bit}
 use Rattle.terms.specs.Refusals.{Refusal, refusal}
 use Rattle.register.specs.Pairs.{row, Has, has, members}

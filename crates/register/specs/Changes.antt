@@ -1,5 +1,5 @@
 -- What add, remove and clear make of a register, and when add refuses.
-use Rattle.std.specs.Prelude.{ℕ, Bool, cond, not, List, [], ◌∷◌, Some, None, Option, nat_le}
+use Rattle.std.specs.Prelude.{ℕ, cond, not, [], ◌∷◌, Some, None, Option, nat_le}
 use Rattle.terms.specs.Refusals.{Refusal, refusal, when, first_of}
 use Rattle.register.specs.Pairs.{pairs, members, with_pair, less_pair, emptied}
 use Rattle.register.specs.Model.{Model, seats_of, with_rows, inside, holds}

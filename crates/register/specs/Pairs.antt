@@ -1,5 +1,5 @@
 -- A set of pairs (user, role) as a list of rows: the row of user u is the set of his roles, a word.
-use Rattle.std.specs.Prelude.{ℕ, ◌^◌, Bool, cond, List, length, set, replicate, sum_by, ◌==◌, bit_or, bit_xor, count_ones, nat_lt, slice_index, slice_set}
+use Rattle.std.specs.Prelude.{ℕ, ◌^◌, Bool, cond, List, length, replicate, sum_by, ◌==◌, bit_or, bit_xor, count_ones, nat_lt, slice_index, slice_set}
 use Rattle.terms.specs.Sets.{bit, In}
 
 -- the user's roles; none for a user past the rows

@@ -1,6 +1,6 @@
 -- A script is its first line, the line's end, and the rest. Assumes nothing.
-use Rattle.std.proofs.Common.{◌≡◌, ℕ, ◌+◌, ◌-◌, ◌<◌, ◌≤◌, ◌⊎◌, List, [], ◌∷◌, ◌++◌, length, get_or, take, drop, sym, refl, ap, ◌∙◌, inl, inr, eq-zero-or-pos, arith}
-use Rattle.std.proofs.lemmas.List.{get_or-take, get_or_past, take-append-drop, drop_more, take_rest, length-take-le}
+use Rattle.std.proofs.Common.{◌≡◌, ℕ, ◌+◌, ◌-◌, ◌<◌, ◌≤◌, List, [], ◌∷◌, ◌++◌, length, get_or, take, drop, sym, refl, ap, ◌∙◌, inl, inr, eq-zero-or-pos, arith}
+use Rattle.std.proofs.lemmas.List.{get_or-take, get_or_past, take-append-drop, drop_more, length-take-le}
 use Rattle.script.specs.Lines.{NoLf, FirstLf, WithoutCr, FirstLine}
 
 -- the bytes before the first LF

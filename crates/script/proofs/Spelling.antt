@@ -1,8 +1,8 @@
 -- A typed text stands for at most one row of bytes, byte after byte. Assumes nothing.
-use Rattle.std.proofs.Common.{◌≡◌, ℕ, ◌+◌, ◌<◌, ◌≤◌, ◌⊎◌, List, [], ◌∷◌, ◌++◌, length, get_or, IfOk, Some, None, Ok, Err, Option, Result, sym, refl, ap, ◌∙◌, subst, inl, inr, append_assoc, arith, Bor, MatchOption}
+use Rattle.std.proofs.Common.{◌≡◌, ℕ, ◌+◌, ◌<◌, ◌≤◌, List, [], ◌∷◌, ◌++◌, length, get_or, IfOk, Some, None, Ok, Err, Option, Result, sym, ap, ◌∙◌, subst, inl, inr, append_assoc, arith, Bor, MatchOption}
 use mathlib.Core.List.{append_cancel_right}
 use Rattle.std.proofs.lemmas.List.{get_or_past}
-use Rattle.script.specs.Literals.{HexDigit, ShortEscape, Prints, UnitAt, Spells, Quoted, Literal}
+use Rattle.script.specs.Literals.{HexDigit, ShortEscape, UnitAt, Spells, Quoted, Literal}
 use Rattle.script.specs.Literals.Spells.{none, more}
 
 -- nothing is typed where the two ways after a backslash both fail

@@ -10,7 +10,7 @@ use Rattle.text.specs.Taken.{TookRecord, Bodies, Handed}
 use Rattle.text.specs.Taken.TookRecord.{last, more}
 use Rattle.text.proofs.Digits.{same_number}
 use Rattle.text.proofs.Records.{record_later, took_within}
-use Rattle.tables.specs.Records.{digits, PairRecord, NotTwoFields, NotNumbers, TakesPair}
+use Rattle.tables.specs.Records.{digits, NotTwoFields, NotNumbers, TakesPair}
 
 -- a list of two
 pub two_is : {X : Type 0} (xs : List X) (d : X) → length xs ≡ 2 → xs ≡ get_or xs 0 d ∷ get_or xs 1 d ∷ []

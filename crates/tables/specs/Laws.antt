@@ -1,9 +1,8 @@
 -- The laws of assignment tables in text.
-use Rattle.std.specs.Prelude.{◌≡◌, ℕ, ◌+◌, ◌^◌, ◌<◌, ◌≤◌, ◌⊎◌, ◌↔◌, List, [], ◌∷◌, ◌++◌, map, length, drop}
-use Rattle.terms.specs.Refusals.{refusal}
-use Rattle.register.specs.Pairs.{row, Has, with_pair}
+use Rattle.std.specs.Prelude.{◌≡◌, ℕ, ◌+◌, ◌^◌, ◌<◌, ◌≤◌, ◌⊎◌, ◌↔◌, List, [], ◌∷◌, ◌++◌, length}
+use Rattle.register.specs.Pairs.{Has, with_pair}
 use Rattle.tables.specs.Listing.{pair_list, text_of, table_text}
-use Rattle.tables.specs.Records.{PairRecord, PairRecords, Begins, NotNumbers}
+use Rattle.tables.specs.Records.{PairRecords, Begins}
 
 -- the pair stands in the list
 abbrev pub Listed : ℕ → ℕ → List (ℕ × ℕ) → Type 0

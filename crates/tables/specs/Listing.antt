@@ -1,5 +1,5 @@
 -- The text of an assignment table: the header, and the pairs ascending by user, then role.
-use Rattle.std.specs.Prelude.{ℕ, zero, suc, ◌+◌, cond, List, [], ◌∷◌, ◌++◌, map, length, codes, ◌==◌}
+use Rattle.std.specs.Prelude.{ℕ, zero, suc, ◌+◌, cond, List, [], ◌∷◌, ◌++◌, map, codes, ◌==◌}
 use Rattle.terms.specs.Sets.{bit}
 use Rattle.text_out.specs.Written.{table}
 

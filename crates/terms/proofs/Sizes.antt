@@ -1,12 +1,12 @@
 -- How many members sets have. Assumes nothing.
-use Rattle.std.proofs.Common.{◌≡◌, ℕ, zero, suc, ◌+◌, ◌-◌, ◌*◌, ◌/◌, ◌%◌, ◌^◌, ◌<◌, ◌≤◌, cond, eqb, ◌⊎◌, List, [], ◌∷◌, length, get_or, sym, refl, ap, ◌∙◌, subst, inl, inr, zero-le, le_trans, add-zero, mod-lt, zero-lt-suc, add-mul, one-mul, arith, pow_pos}
+use Rattle.std.proofs.Common.{◌≡◌, ℕ, zero, suc, ◌+◌, ◌*◌, ◌/◌, ◌%◌, ◌^◌, ◌<◌, ◌≤◌, cond, eqb, ◌⊎◌, List, [], ◌∷◌, length, get_or, sym, refl, ap, ◌∙◌, subst, inl, inr, zero-le, le_trans, mod-lt, zero-lt-suc, add-mul, one-mul, arith, pow_pos}
 use lib.Bits.{bit_and, bit_or, bit_xor}
 use lib.Arith.{bin_ind}
 use lib.Count.{ones, ones_step, ones_cat}
 use Rattle.std.proofs.lemmas.List.{get_or_past}
 use Rattle.std.proofs.lemmas.Bool.{cases_eq, eq-eqb, ne_eqb}
-use Rattle.terms.specs.Sets.{bit, In, Within, union}
-use Rattle.terms.proofs.Bits.{bit_first, bit_next, bit_off, in_and, in_both, in_or, in_or_l, in_or_r, in_one_only, less_gone, less_back}
+use Rattle.terms.specs.Sets.{In, Within, union}
+use Rattle.terms.proofs.Bits.{bit_first, bit_next, in_and, in_both, in_or, in_or_l, in_or_r, in_one_only, less_gone, less_back}
 
 -- a part of a set has no more numbers
 low_le : (a b : ℕ) → Within a b → a % 2 ≤ b % 2

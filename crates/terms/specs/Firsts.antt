@@ -1,5 +1,5 @@
 -- The first of several rows that applies, where the rows are numbered from 0.
-use Rattle.std.specs.Prelude.{ℕ, zero, suc, Some, None, Option}
+use Rattle.std.specs.Prelude.{ℕ, zero, suc, None, Option}
 use Rattle.terms.specs.Refusals.{or_else}
 
 -- the first of f 0, f 1, and so on below n that is something

@@ -1,4 +1,4 @@
-use Rattle.std.proofs.Common.{◌≡◌, drop, ap, ◌∙◌, rules}
+use Rattle.std.proofs.Common.{drop, ap, ◌∙◌, rules}
 use Rattle.register.specs.Changes.{add_rows, added}
 use Rattle.register.specs.Model.{Model, Kept}
 use Rattle.bit_rows.specs.Table.{model_of}

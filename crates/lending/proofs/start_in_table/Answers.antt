@@ -1,7 +1,7 @@
-use Rattle.std.proofs.Common.{◌≡◌, drop, ap, ◌∙◌, rules}
+use Rattle.std.proofs.Common.{drop, ap, ◌∙◌, rules}
 use Rattle.register.specs.Changes.{add_rows, added, cleared}
 use Rattle.register.specs.Layer.{seated}
-use Rattle.register.specs.Model.{Model, Kept}
+use Rattle.register.specs.Model.{Kept}
 use Rattle.bit_rows.specs.Table.{model_of}
 use Rattle.lending.proofs.Tables.{table_is}
 use Rattle.lending.proofs.start_in_table.Goals as goal

@@ -1,5 +1,5 @@
-use Rattle.std.proofs.Common.{◌≡◌, ap, ◌∙◌, rules}
-use Rattle.register.specs.Changes.{add_rows, added, cleared}
+use Rattle.std.proofs.Common.{◌≡◌, rules}
+use Rattle.register.specs.Changes.{cleared}
 use Rattle.register.specs.Layer.{seated}
 use Rattle.lending.proofs.Tables.{cleared_again}
 use Rattle.lending.proofs.start_twice_seated.Goals as goal

@@ -1,4 +1,4 @@
-use Rattle.std.proofs.Common.{◌≡◌, get_or, sym, arith}
+use Rattle.std.proofs.Common.{get_or, sym, arith}
 use Rattle.bit_rows.specs.Table.{rows_of}
 use Rattle.bit_rows.proofs.Keeping.{Counts, row_pairs, row_members, counts_off}
 use Rattle.bit_rows.proofs.Words.{length_rows, row_is, rows_set}

@@ -1,4 +1,4 @@
-use Rattle.std.proofs.Common.{◌≤◌, length, ap, arith}
+use Rattle.std.proofs.Common.{length, ap, arith}
 use Rattle.bit_rows.specs.Table.{rows_of}
 use Rattle.bit_rows.proofs.Keeping.{Counts, counts_found}
 use Rattle.bit_rows.proofs.Words.{length_rows}

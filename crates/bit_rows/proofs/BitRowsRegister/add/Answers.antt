@@ -1,8 +1,8 @@
-use Rattle.std.proofs.Common.{◌≡◌, ◌<◌, ◌≤◌, ◌⊎◌, [], ◌∷◌, length, get_or, sym, refl, ap, ◌∙◌, inl, inr, ⊎_elim, arith, drop-set-lt, rules}
+use Rattle.std.proofs.Common.{◌≡◌, ◌<◌, ◌≤◌, ◌⊎◌, [], ◌∷◌, length, sym, refl, ap, ◌∙◌, inl, inr, ⊎_elim, arith, drop-set-lt, rules}
 use Rattle.std.proofs.lemmas.List.{length-set}
 use Rattle.std.proofs.lemmas.Bool.{both_ways}
 use Rattle.terms.specs.Sets.{bit}
-use Rattle.register.specs.Pairs.{row, Has, members}
+use Rattle.register.specs.Pairs.{Has, members}
 use Rattle.register.specs.Model.{users_of, seats_of}
 use Rattle.register.proofs.Cases as cases
 use Rattle.bit_rows.specs.Table.{rows_of, model_of}

@@ -3,7 +3,7 @@ use lib.Bits.{bit_xor}
 use Rattle.std.proofs.lemmas.List.{length-set}
 use Rattle.std.proofs.lemmas.Bool.{both_ways}
 use Rattle.terms.specs.Sets.{bit}
-use Rattle.register.specs.Pairs.{row, Has}
+use Rattle.register.specs.Pairs.{Has}
 use Rattle.register.specs.Model.{users_of}
 use Rattle.register.proofs.Cases as cases
 use Rattle.bit_rows.specs.Table.{rows_of, model_of}

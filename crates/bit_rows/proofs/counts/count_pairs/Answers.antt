@@ -1,5 +1,5 @@
-use Rattle.std.proofs.Common.{◌^◌, ◌<◌, ◌≤◌, length, get_or, ap, ◌∙◌, arith, below_more}
-use lib.Count.{ones, ones-le}
+use Rattle.std.proofs.Common.{◌<◌, ◌≤◌, length, get_or, ap, ◌∙◌, arith, below_more}
+use lib.Count.{ones-le}
 use Rattle.std.proofs.lemmas.List.{take_all}
 use Rattle.register.specs.Pairs.{pairs}
 use Rattle.register.proofs.Tables.{pairs_more}

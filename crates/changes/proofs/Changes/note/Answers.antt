@@ -1,4 +1,4 @@
-use Rattle.std.proofs.Common.{◌≡◌, false, leb, length, take, sym, refl, arith, length-take}
+use Rattle.std.proofs.Common.{◌≡◌, false, leb, length, take, refl, arith, length-take}
 use Rattle.std.proofs.lemmas.List.{take_more_set}
 use Rattle.std.proofs.lemmas.Bool.{lt-leb}
 use Rattle.changes.proofs.Changes.note.Goals as goal

@@ -1,8 +1,7 @@
-use Rattle.std.proofs.Common.{◌≡◌, ℕ, ◌+◌, ◌<◌, ◌⊎◌, ◌↔◌, length, get_or, drop, sym, ap, ◌∙◌, subst, arith}
+use Rattle.std.proofs.Common.{◌≡◌, ◌+◌, drop, sym, ap, ◌∙◌, subst, arith}
 use Rattle.std.proofs.lemmas.List.{drop_more, drop_all}
 use Rattle.terms.specs.Sets.{In}
-use Rattle.changes.specs.Ends.{row_after, changed_row}
-use Rattle.changes.specs.Latest.{Stands, Unwithdrawn}
+use Rattle.changes.specs.Ends.{row_after}
 use Rattle.changes.specs.declared.Change.TheVariants.{Assignment}
 use Rattle.changes.proofs.After.{after_in, after_out, row_ended}
 use Rattle.changes.proofs.rows.row_after.Goals as goal

@@ -1,6 +1,6 @@
-use Rattle.std.proofs.Common.{◌≡◌, ◌+◌, ◌*◌, ◌<◌, ◌≤◌, true, false, ◌⊎◌, [], ◌∷◌, length, set, sym, refl, ap, ◌∙◌, inl, inr, ⊎_elim, arith, drop-set-lt}
+use Rattle.std.proofs.Common.{◌+◌, ◌*◌, ◌<◌, ◌≤◌, true, ◌⊎◌, [], ◌∷◌, length, set, sym, refl, ap, ◌∙◌, inl, inr, ⊎_elim, arith, drop-set-lt}
 use Rattle.std.proofs.lemmas.List.{length-set}
-use Rattle.register.specs.Pairs.{Has, pairs, members}
+use Rattle.register.specs.Pairs.{Has, members}
 use Rattle.register.specs.Model.{users_of, seats_of}
 use Rattle.register.proofs.Cases as cases
 use Rattle.flag_table.specs.Flags.{users_in, model_of}

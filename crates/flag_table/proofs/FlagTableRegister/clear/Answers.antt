@@ -1,4 +1,4 @@
-use Rattle.std.proofs.Common.{◌≡◌, ◌*◌, ◌<◌, false, [], ◌∷◌, length, drop, set, replicate, sym, ap, ◌∙◌, arith, drop-set-lt, below_more}
+use Rattle.std.proofs.Common.{◌≡◌, ◌*◌, ◌<◌, false, [], ◌∷◌, length, set, replicate, sym, ap, ◌∙◌, arith, drop-set-lt, below_more}
 use Rattle.std.proofs.lemmas.List.{get_or-set_same, get_or-set_other, length-set}
 use Rattle.flag_table.specs.Flags.{rows_from, users_in, rows_of, model_of}
 use Rattle.flag_table.proofs.Marks.{flags_sound, model_with, spare_same, unmarked_all}

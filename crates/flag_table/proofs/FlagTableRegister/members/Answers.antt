@@ -1,6 +1,6 @@
-use Rattle.std.proofs.Common.{◌≡◌, ◌+◌, ◌<◌, ◌≤◌, length, take, sym, ap, ◌∙◌, arith}
+use Rattle.std.proofs.Common.{◌≤◌, length, sym, ap, ◌∙◌, arith}
 use Rattle.std.proofs.lemmas.List.{take_all}
-use Rattle.register.specs.Pairs.{row, having}
+use Rattle.register.specs.Pairs.{having}
 use Rattle.register.proofs.Cases.{members_low}
 use Rattle.register.proofs.Tables.{members_more}
 use Rattle.flag_table.specs.Flags.{users_in, rows_of}

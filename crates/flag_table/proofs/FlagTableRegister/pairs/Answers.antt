@@ -1,7 +1,7 @@
-use Rattle.std.proofs.Common.{◌≡◌, ◌+◌, ◌<◌, ◌≤◌, length, take, ap, ◌∙◌, arith}
+use Rattle.std.proofs.Common.{◌+◌, ◌≤◌, length, ap, ◌∙◌, arith}
 use lib.Count.{ones, ones-le}
 use Rattle.std.proofs.lemmas.List.{take_all}
-use Rattle.register.specs.Pairs.{row, pairs}
+use Rattle.register.specs.Pairs.{pairs}
 use Rattle.register.proofs.Tables.{pairs_more}
 use Rattle.flag_table.specs.Flags.{rows_of}
 use Rattle.flag_table.proofs.FlagTableRegister.pairs.Goals as goal

@@ -1,4 +1,4 @@
-use Rattle.std.proofs.Common.{◌≡◌, get_or, sym, refl, subst, inl, inr, arith, rules, below_more}
+use Rattle.std.proofs.Common.{get_or, sym, refl, subst, arith, below_more}
 use Rattle.std.proofs.lemmas.Bool.{both_ways, false≢true}
 use Rattle.std.proofs.lemmas.Nat.{one_shl}
 use Rattle.terms.specs.Sets.{In}

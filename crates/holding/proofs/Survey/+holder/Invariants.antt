@@ -1,5 +1,4 @@
-use Rattle.std.proofs.Common.{ℕ, ◌+◌, ◌-◌, ◌^◌, ◌<◌, get_or}
-use lib.Bits.{bit_or}
+use Rattle.std.proofs.Common.{ℕ, ◌<◌, get_or}
 use Rattle.terms.specs.Sets.{In}
 use Rattle.plan.specs.Authority.{authorised}
 use Rattle.holding.specs.Search.{Holder}

@@ -1,4 +1,4 @@
-use Rattle.std.proofs.Common.{◌≡◌, length, inl, inr, arith, rules}
+use Rattle.std.proofs.Common.{◌≡◌, length, inl, inr, arith}
 use Rattle.std.proofs.lemmas.Bool.{cases_lt}
 use Rattle.terms.proofs.Sizes.{past_none}
 use Rattle.holding.proofs.bounding.most.Goals as goal

@@ -1,4 +1,4 @@
-use Rattle.std.proofs.Common.{◌≡◌, ◌*◌, ◌≤◌, get_or, sym, subst, inl, inr, le_trans, arith, ltb-true}
+use Rattle.std.proofs.Common.{◌*◌, ◌≤◌, get_or, sym, subst, inl, inr, le_trans, arith, ltb-true}
 use lib.Bits.{bit_and}
 use lib.Count.{ones, ones-le}
 use Rattle.terms.specs.Sets.{In}

@@ -1,4 +1,4 @@
-use Rattle.std.proofs.Common.{◌≡◌, ◌^◌, get_or, set, sym, ap, ◌∙◌, subst, inl, inr, arith, length-set, rules}
+use Rattle.std.proofs.Common.{ap, ◌∙◌, inl, inr, arith, length-set}
 use Rattle.std.proofs.lemmas.Nat.{one_shl}
 use Rattle.std.proofs.lemmas.Bool.{cases_eq}
 use Rattle.std.proofs.lemmas.List.{get_or-set_same, get_or-set_other}

@@ -1,4 +1,4 @@
-use Rattle.std.proofs.Common.{◌≡◌, ℕ, ◌+◌, ◌<◌, ◌⊎◌, List, length, get_or, sym, ap, ◌∙◌, subst, inl, inr, arith, length-set}
+use Rattle.std.proofs.Common.{ℕ, ◌+◌, ◌<◌, ◌⊎◌, List, length, get_or, sym, ap, ◌∙◌, subst, inl, inr, arith, length-set}
 use Rattle.terms.specs.Sets.{In}
 use Rattle.plan.specs.Authority.{Granted, constraint_count, constraint_at}
 use Rattle.plan.proofs.Tables.{some_at, none_at}

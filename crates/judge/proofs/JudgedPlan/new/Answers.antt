@@ -1,4 +1,4 @@
-use Rattle.std.proofs.Common.{length, arith}
+use Rattle.std.proofs.Common.{arith}
 use Rattle.plan.proofs.Histories.{policies_counted}
 use Rattle.judge.proofs.JudgedPlan.new.Goals as goal
 

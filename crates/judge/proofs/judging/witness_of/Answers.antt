@@ -1,7 +1,6 @@
-use Rattle.std.proofs.Common.{◌≡◌, ℕ, ◌<◌, ◌≤◌, sym, ap, ◌∙◌, subst, arith, below_more}
-use lib.Count.{ones}
+use Rattle.std.proofs.Common.{◌<◌, ◌≤◌, sym, ap, ◌∙◌, subst, arith, below_more}
 use Rattle.terms.proofs.Sizes.{ones_pos}
-use Rattle.plan.specs.Authority.{policy_count, policy_at}
+use Rattle.plan.specs.Authority.{policy_count}
 use Rattle.plan.specs.Enforcing.{Enforces}
 use Rattle.plan.specs.declared.Policy.{Policy}
 use Rattle.judge.specs.Memory.{MemoRight}

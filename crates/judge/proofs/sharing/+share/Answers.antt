@@ -1,4 +1,4 @@
-use Rattle.std.proofs.Common.{◌≡◌, ◌+◌, ◌-◌, ◌*◌, ◌^◌, ◌<◌, sym, refl, ap, ◌∙◌, subst, le_refl, arith}
+use Rattle.std.proofs.Common.{◌+◌, ◌-◌, ◌*◌, ◌^◌, ◌<◌, sym, subst, le_refl, arith}
 use Rattle.std.proofs.lemmas.Nat.{one_shl}
 use Rattle.terms.proofs.Bits.{in_pos}
 use Rattle.judge.specs.Search.{Coverable}

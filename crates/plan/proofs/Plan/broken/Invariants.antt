@@ -1,7 +1,7 @@
 use Rattle.std.proofs.Common.{ℕ, ◌<◌}
 use lib.Bits.{bit_and}
 use lib.Count.{ones}
-use Rattle.plan.specs.Authority.{authorised, constraint_at}
+use Rattle.plan.specs.Authority.{constraint_at}
 use Rattle.plan.proofs.Plan.broken.Given as goal
 
 abbrev pub invariant-loop-i : goal.invariant-loop-i

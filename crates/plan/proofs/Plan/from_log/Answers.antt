@@ -1,6 +1,6 @@
-use Rattle.std.proofs.Common.{◌≡◌, ◌<◌, ◌≤◌, length, get_or, Ok, refl, ◌∙◌, subst, arith}
+use Rattle.std.proofs.Common.{◌<◌, length, get_or, Ok, refl, ◌∙◌, subst, arith}
 use Rattle.std.proofs.lemmas.List.{take_all}
-use Rattle.plan.specs.History.{accepted, Means, entry}
+use Rattle.plan.specs.History.{accepted, Means}
 use Rattle.plan.specs.declared.Addition.TheVariants.{Senior}
 use Rattle.plan.specs.declared.Entry.{Entry}
 use Rattle.plan.proofs.Histories as histories

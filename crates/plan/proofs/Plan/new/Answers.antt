@@ -1,4 +1,4 @@
-use Rattle.std.proofs.Common.{ℕ, refl, arith, rules}
+use Rattle.std.proofs.Common.{ℕ, refl, arith}
 use Rattle.plan.proofs.Tables.{zeros}
 use Rattle.plan.proofs.Seniority.{alone_low, alone_reflexive, alone_transitive, alone_antisymmetric}
 use Rattle.plan.proofs.Histories.{means_none}

@@ -1,4 +1,4 @@
-use Rattle.std.proofs.Common.{◌+◌, ◌/◌, ◌^◌, drop, sym, ap, ◌∙◌, arith}
+use Rattle.std.proofs.Common.{◌+◌, ap, ◌∙◌, arith}
 use lib.Bits.{bit_or}
 use Rattle.terms.specs.Sets.{union}
 use Rattle.std.proofs.lemmas.Bool.{both_ways}

@@ -1,4 +1,4 @@
-use Rattle.std.proofs.Common.{◌≡◌, ◌/◌, ◌^◌, ◌≤◌, drop}
+use Rattle.std.proofs.Common.{◌≡◌, ◌/◌, ◌^◌, drop}
 use lib.Bits.{bit_or}
 use Rattle.terms.specs.Sets.{union}
 use Rattle.plan.proofs.asking.union_of.Given as goal

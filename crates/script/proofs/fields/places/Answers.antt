@@ -1,9 +1,8 @@
-use Rattle.std.proofs.Common.{◌≡◌, ℕ, ◌+◌, ◌-◌, ◌*◌, ◌<◌, ◌≤◌, Bool, true, cond, eqb, List, [], ◌∷◌, ◌++◌, length, drop, vec_items, sym, ap, ◌∙◌, subst, append-nil, arith, true-eqb}
+use Rattle.std.proofs.Common.{◌≡◌, ℕ, ◌<◌, ◌≤◌, true, cond, [], ◌∷◌, ◌++◌, length, drop, vec_items, sym, ap, ◌∙◌, subst, append-nil, arith, true-eqb}
 use Rattle.text.specs.Taken.{Took}
 use Rattle.text.specs.Grammar.{NoField}
 use Rattle.text.proofs.Walked.{bytes_left}
-use Rattle.script.specs.declared.fields.Place.{Place}
-use Rattle.script.specs.Listing.{ends, place, Listed, Begins}
+use Rattle.script.specs.Listing.{place, Listed, Begins}
 use Rattle.script.specs.Listing.Listed.{done, refused}
 use Rattle.script.proofs.Listing.{took_less, listed_more}
 use Rattle.script.proofs.fields.places.Goals as goal

@@ -1,4 +1,4 @@
-use Rattle.std.proofs.Common.{ℕ, List, [], ◌∷◌, ◌++◌, vec_items, sym, subst, append-nil, arith}
+use Rattle.std.proofs.Common.{[], ◌++◌, vec_items, sym, subst, append-nil, arith}
 use Rattle.script.specs.Literals.{Spells}
 use Rattle.script.specs.Literals.Spells.{none}
 use Rattle.script.proofs.Spelling.{unit_later, spells_after, spells_not, spells_more}

@@ -1,4 +1,4 @@
-use Rattle.std.proofs.Common.{◌≡◌, ℕ, ◌+◌, get_or, arith}
+use Rattle.std.proofs.Common.{◌+◌, get_or, arith}
 use Rattle.script.proofs.Spelling.{no_unit, x_no_escape, past_no_escape, past_no_digit}
 use Rattle.script.proofs.literals.unit_at.Goals as goal
 

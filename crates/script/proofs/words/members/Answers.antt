@@ -1,9 +1,9 @@
-use Rattle.std.proofs.Common.{◌≡◌, ℕ, ◌+◌, ◌^◌, ◌<◌, cond, ◌⊎◌, ◌↔◌, List, length, get_or, drop, sym, ap, ◌∙◌, subst, inl, inr, arith, MatchOption}
+use Rattle.std.proofs.Common.{◌≡◌, ℕ, ◌+◌, ◌^◌, cond, ◌⊎◌, ◌↔◌, drop, sym, ap, ◌∙◌, subst, inl, inr, arith}
 use lib.Bits.{bit_or}
 use Rattle.std.proofs.lemmas.Bool.{lt-ltb}
 use Rattle.terms.specs.Sets.{In}
 use Rattle.terms.proofs.Bits.{none_in}
-use Rattle.script.specs.Words.{Writes, Names, AllMembers}
+use Rattle.script.specs.Words.{Names}
 use Rattle.script.proofs.Numbers.{one_number}
 use Rattle.script.proofs.Naming.{member_at, turn, at_end}
 use Rattle.script.proofs.words.members.Goals as goal

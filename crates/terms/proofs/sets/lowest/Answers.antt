@@ -1,5 +1,3 @@
-use Rattle.std.proofs.Common.{sym, subst}
-use Rattle.terms.specs.Sets.{Lowest}
 use Rattle.terms.proofs.Bits.{lowest_is}
 use Rattle.terms.proofs.sets.lowest.Goals as goal
 

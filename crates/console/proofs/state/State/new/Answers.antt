@@ -1,4 +1,4 @@
-use Rattle.std.proofs.Common.{List, sym, subst}
+use Rattle.std.proofs.Common.{sym, subst}
 use Rattle.plan.specs.History.{accepted, Means}
 use Rattle.console.proofs.state.State.new.Goals as goal
 

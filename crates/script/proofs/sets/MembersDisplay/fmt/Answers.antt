@@ -1,6 +1,5 @@
-use Rattle.std.proofs.Common.{◌≡◌, ℕ, ◌+◌, true, ◌∷◌, ◌++◌, decimal, sym, refl, ap, ◌∙◌, subst, arith}
-use Rattle.std.specs.declared.fmt.Formatter.{Formatter}
-use Rattle.std.specs.Fmt.{IsPlainFormatter, HasWritten}
+use Rattle.std.proofs.Common.{◌+◌, ◌∷◌, ◌++◌, decimal, sym, refl, ap, ◌∙◌, subst, arith}
+use Rattle.std.specs.Fmt.{HasWritten}
 use Rattle.std.proofs.lemmas.Bool.{both_ways}
 use Rattle.terms.specs.Sets.{In}
 use Rattle.script.specs.Printing.{gap, listed}
