@@ -1,10 +1,10 @@
 #!/bin/sh
 # Proves and builds the console, and runs it on the shipped story of a store's commissioning.
 set -eu
-cd "$(dirname "$0")/.."
-mkdir -p target
-if ! rt check console > target/demo.log 2>&1; then
-    tail -n 20 target/demo.log
+cd "$(dirname "$0")/../crates/console"
+log=$(mktemp)
+trap 'rm -f "$log"' EXIT
+if ! rt run < stdin 2> "$log"; then
+    tail -n 20 "$log" >&2
     exit 1
 fi
-exec target/bin/console < crates/console/stdin

@@ -5,7 +5,7 @@ set -eu
 cd "$(dirname "$0")/.."
 copy=$(mktemp -d)
 trap 'rm -rf "$copy"' EXIT
-cp -r crates crates.txt "$copy"
+tar -cf - --exclude=out crates crates.txt | tar -xf - -C "$copy"
 rm -rf "$copy"/crates/*/must-fail
 for folder in tools/planted/*/; do
     crate=$(basename "$folder")
@@ -16,5 +16,5 @@ done
 cd "$copy"
 status=0
 rt must-fail "$@" > log 2>&1 || status=$?
-grep -E '^rt: ' log | grep -v ' proved (' || true
+grep -E 'must-fail |^rt: ok|passed, ' log || true
 exit $status

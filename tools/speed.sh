@@ -1,7 +1,7 @@
 #!/bin/sh
 # usage: speed.sh [CONSOLE [FOLDER]]
 # Times the judging of every plan that families.py writes (into FOLDER, or a folder that is removed
-# afterwards) with CONSOLE (target/bin/console): the best of three runs, less the time of an empty
+# afterwards) with CONSOLE (crates/console/out/console): the best of three runs, less the time of an empty
 # script. Prints a table and ends with status 1 if a plan takes longer than its limit, or a verdict
 # is wrong or disagrees with a solver. Outside the gate: times need a machine with nothing else to do.
 # The solvers minisat and cadical are run beside it where they are installed.
@@ -11,7 +11,7 @@
 #   ONLY=               only plans whose name begins so, such as random or all-roles-t3
 set -eu
 tools=$(dirname "$0")
-console=${1:-target/bin/console}
+console=${1:-crates/console/out/console}
 if [ $# -ge 2 ]; then
   folder=$2
 else
