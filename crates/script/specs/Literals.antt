@@ -14,7 +14,7 @@ ShortEscape c b =
 abbrev pub Prints : ℕ → Type 0
 Prints b = (32 ≤ b) × (b ≤ 126) × (b ≢ 34) × (b ≢ 92)
 
--- At `at` the byte b is typed, and next is the place after it. Past the end of the text get_or reads zeros, which nothing is typed with.
+-- At `at` the byte b is typed, and next is the place after it. Past the end of the text slice_index reads zeros, which nothing is typed with.
 -- b as it is
 abbrev pub PlainAt : List ℕ → ℕ → ℕ → ℕ → Type 0
 PlainAt typed at b next = Prints b × (slice_index typed at ≡ b) × (next ≡ at + 1)
