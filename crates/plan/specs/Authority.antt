@@ -1,6 +1,6 @@
 -- What a plan means for a user, who is given by the set of his assigned roles: the roles that he is authorised for,
 -- the permissions that he holds, and whether he satisfies the constraints.
-use Rattle.std.specs.Prelude.{ℕ, ◌<◌, ◌≤◌, List, [], ◌∷◌, bit_and, bit_or, count_ones, slice_index}
+use Rattle.std.specs.Prelude.{ℕ, ◌<◌, ◌≤◌, List, [], ◌∷◌, bit_and, take, bit_or, count_ones, slice_index}
 use Rattle.terms.specs.Sets.{In, union}
 use Rattle.plan.specs.Order.{Over}
 use Rattle.plan.specs.Limits.{policy_in, constraint_in}
@@ -31,6 +31,13 @@ authorised p w = union p.juniors w
 -- the set of the permissions that he holds
 abbrev pub held : Plan → ℕ → ℕ
 held p w = union p.grants (authorised p w)
+
+-- a plan's policies and its constraints, in order
+abbrev pub policies_of : Plan → List Policy
+policies_of p = take p.policy_count p.policies
+
+abbrev pub constraints_of : Plan → List Constraint
+constraints_of p = take p.constraint_count p.constraints
 
 -- the number of a plan's policies, and the policy of a number
 abbrev pub policy_count : Plan → ℕ

@@ -1,6 +1,6 @@
 ghost use Rattle.std.specs.Prelude.{◌≡◌, ℕ, ◌<◌, ◌↔◌, if◌then◌else◌, Some, None, Decides, MatchOption, nat_lt, slice_index};
 ghost use Rattle.terms.specs.Sets.{In, union};
-ghost use Rattle.plan.specs.Authority.{Senior, Granted, AuthorisedFor, Holds, authorised, held, policy_count, policy_at, constraint_count, constraint_at, Satisfies, LowestBroken};
+ghost use Rattle.plan.specs.Authority.{Senior, Granted, AuthorisedFor, Holds, authorised, held, policies_of, constraints_of, policy_count, policy_at, constraint_count, constraint_at, Satisfies, LowestBroken};
 
 use super::{Constraint, Plan, Policy};
 use terms::sets::{PermissionSet, RoleSet, contains};
@@ -76,6 +76,20 @@ impl Plan {
             return 0;
         }
         self.grants[role as usize]
+    }
+
+    // The policies, in order.
+    pub fn policies(&self) -> &[Policy]
+        ensures { result.now ≡ policies_of self.now }
+    {
+        &self.policies[..self.policy_count]
+    }
+
+    // The constraints, in order.
+    pub fn constraints(&self) -> &[Constraint]
+        ensures { result.now ≡ constraints_of self.now }
+    {
+        &self.constraints[..self.constraint_count]
     }
 
     // How many policies there are; they are numbered from 0.

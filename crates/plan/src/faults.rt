@@ -1,13 +1,12 @@
-ghost use Rattle.std.specs.Prelude.{◌≡◌};
 ghost use Rattle.plan.specs.Refusing.{shown};
 
 use super::PlanFault;
+use terms::refusals::Fault;
 
-impl PlanFault {
-    // The refusal's number.
-    pub fn number(&self) -> u32
-        ensures { result ≡ (shown self.now).number }
-    {
+impl Fault for PlanFault {
+    ghost shown = { shown };
+
+    fn number(&self) -> u32 {
         match self {
             PlanFault::NoRole => 1,
             PlanFault::NoPermission => 2,

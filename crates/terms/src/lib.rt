@@ -1,4 +1,5 @@
 // The terms that every layer shares.
 #![tactic(auto)]
 
+pub mod refusals;
 pub mod sets;
