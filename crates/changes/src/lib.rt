@@ -9,7 +9,7 @@ pub mod rows;
 pub mod turns;
 
 // A change, with its user and role.
-#[derive(Clone, Copy)]
+#[derive(Clone, Copy, PartialEq, Eq, Debug)]
 pub enum Change {
     // the user is assigned to the role
     Assignment(u32, u32),
@@ -31,7 +31,7 @@ pub enum ChangeFault {
 }
 
 // A change that is refused in its turn: its number in the list, from 0, and why.
-#[derive(Clone, Copy)]
+#[derive(Clone, Copy, PartialEq, Eq, Debug)]
 pub struct TurnFault {
     pub change: usize,
     pub fault: ChangeFault,
