@@ -1,12 +1,12 @@
 // Changes of an assignment, drafts of them, and what they make of a user's roles.
 #![tactic(auto)]
 
-ghost use Rattle.std.specs.Prelude.{◌≡◌, ℕ, ◌≤◌, length};
-
 mod drafting;
 mod faults;
 pub mod rows;
 pub mod turns;
+
+use terms::short_list::ShortList;
 
 // A change, with its user and role.
 #[derive(Clone, Copy, PartialEq, Eq, Debug)]
@@ -37,13 +37,10 @@ pub struct TurnFault {
     pub fault: ChangeFault,
 }
 
-// At most 16 changes in order: the first of the table, as many as the count says.
+// At most 16 changes, in order.
 #[derive(Clone, Copy)]
 pub struct Changes {
-    items: [Change; 16],
-    count: usize,
-    ghost whole: { length items ≡ 16 },
-    ghost few: { count ≤ 16 },
+    items: ShortList<Change, 16>,
 }
 
 // A draft is neither `Drop` nor `Copy`: it is carried or struck, once.
