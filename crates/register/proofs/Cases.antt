@@ -1,6 +1,6 @@
 -- Which row of add applies, what add and remove leave in each case, and nothing else of the definitions. Assumes nothing.
 use Rattle.std.proofs.Common.{◌≡◌, ℕ, ◌<◌, ◌≤◌, Bool, true, false, cond, not, ltb, leb, ◌⊎◌, List, [], ◌∷◌, Some, None, Option, refl, ap, ◌∙◌, inl, inr}
-use Rattle.std.proofs.lemmas.Bool.{cases_lt, cases_eq, lt-ltb, le-ltb, le-leb, lt-leb, eq-eqb, ne_eqb, and_from, and_left, and_right}
+use Rattle.std.proofs.lemmas.Bool.{cases_lt, cases_eq, lt-ltb, le-ltb, le-leb, lt-leb, eq-eqb, ne_eqb, both_ways, and_from, and_left, and_right}
 use Rattle.terms.specs.Sets.{bit}
 use Rattle.terms.specs.Refusals.{Refusal, refusal, when, first_of}
 use Rattle.register.specs.Pairs.{row, Has, pairs, having, members, with_pair, less_pair}
@@ -47,6 +47,9 @@ module _ (m : Model) (u r : ℕ) where
 
   pub held_outside : (users_of m ≤ u) ⊎ (64 ≤ r) → holds m u r ≡ false
   held_outside h = and_left (inside m u r) _ (not_inside h)
+
+  pub held_free : u < users_of m → r < 64 → holds m u r ≡ false → Has m.rows u r → ⊥
+  held_free low small f h = both_ways (holds m u r) f (held_true low small h)
 
   -- ---- add
   by_rows : holds m u r ≡ false → (o : Option Refusal) → new_pair_rows m u r ≡ o → Adds m u r o (unless o m (with_rows m (with_pair m.rows u r)))

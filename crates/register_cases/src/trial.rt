@@ -2,6 +2,7 @@
 use super::generator::Generator;
 use super::model::Model;
 use register::{Register, RegisterFault};
+use terms::refusals::Fault;
 
 // How many comparisons came out as the model has it.
 #[derive(Drop)]
