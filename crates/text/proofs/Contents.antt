@@ -1,9 +1,8 @@
 -- A content is determined by what stands in the text for it. Assumes nothing.
-use Rattle.std.proofs.Common.{◌≡◌, ℕ, zero, suc, ◌+◌, ◌-◌, ◌<◌, ◌≤◌, Option, Some, None, unwrap_or, MatchOption, List, [], ◌∷◌, ◌++◌, length, get_or, take, drop, sym, refl, ap, ◌∙◌, subst, ⊎_elim, arith, length-drop}
+use Rattle.std.proofs.Common.{◌≡◌, ℕ, zero, suc, ◌+◌, ◌-◌, ◌<◌, ◌≤◌, List, [], ◌∷◌, ◌++◌, length, get_or, take, drop, sym, refl, ap, ◌∙◌, subst, ⊎_elim, arith, length-drop}
 use Rattle.std.proofs.lemmas.List.{take-append-drop, drop-drop, get_or-drop, take_rest}
 use Rattle.std.proofs.lemmas.Bool.{cases_eq, ne_eqb}
 use Rattle.text.specs.Grammar.{Plain, AllPlain, escape}
-use Rattle.std.specs.List.{AllWithin, HoldsAt}
 use Rattle.text.specs.Scans.{PlainTo, PlainRun, NoQuote}
 
 -- a list that does not begin with a plain byte
@@ -77,16 +76,11 @@ all_plain s zero l h = tt
 all_plain [] (suc n) l h = absurd (omega arith)
 all_plain (b ∷ s) (suc n) l h = (h 0 (omega arith), all_plain s n (omega arith) (λ k w. h (suc k) (omega arith)))
 
--- the first byte that is not plain ends the run, or the text does
-pub plain_run : (s : List ℕ) (r : Option ℕ) → MatchOption r (AllWithin Plain s 0 (length s)) (λ i. (i < length s) × HoldsAt (λ b. Plain b → ⊥) s i × AllWithin Plain s 0 i) → PlainRun s (unwrap_or r (length s))
-plain_run s None h = record { plain = all_plain s (length s) (omega arith) (λ k l. h k 0 (omega arith) l); within = omega arith; stops = λ l. absurd (omega arith) }
-plain_run s (Some i) h = record { plain = all_plain s i (omega arith) (λ k l. h.2 k 0 (omega arith) l); within = omega arith; stops = λ l. h.1 0 }
-
 -- a run from a place on goes to where it ends
 pub plain_to : (s : List ℕ) (from n : ℕ) → PlainRun (take (length s - from) (drop from s)) n → PlainTo s from (from + n)
 plain_to s from n h =
     let r : PlainRun (drop from s) n = subst (λ t. PlainRun t n) (take_rest s from) h in
-    (take n (drop from s), r.plain, sym (take-append-drop n (drop from s)) ∙ ap (λ u. take n (drop from s) ++ u) (drop-drop n from s))
+    (take n (drop from s), all_plain (drop from s) n r.within r.plain, sym (take-append-drop n (drop from s)) ∙ ap (λ u. take n (drop from s) ++ u) (drop-drop n from s))
 
 pub plain_within : (s : List ℕ) (from n : ℕ) → from ≤ length s → PlainRun (take (length s - from) (drop from s)) n → from + n ≤ length s
 plain_within s from n w h =

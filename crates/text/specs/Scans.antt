@@ -1,5 +1,5 @@
 -- How far a field goes, by places in the text.
-use Rattle.std.specs.Prelude.{◌≡◌, ℕ, ◌+◌, ◌<◌, ◌≤◌, Bool, true, false, List, ◌++◌, length, drop, slice_index, slice_index_or, take}
+use Rattle.std.specs.Prelude.{◌≡◌, ℕ, ◌+◌, ◌<◌, ◌≤◌, Bool, true, false, List, ◌++◌, length, drop, slice_index, slice_index_or}
 use Rattle.text.specs.declared.field.Mark.{Mark}
 use Rattle.text.specs.declared.field.Span.{Span}
 use Rattle.text.specs.Grammar.{Plain, AllPlain, escape, body, written, Proper, sign, Ends}
@@ -10,7 +10,7 @@ NoQuote t = slice_index t 0 ≡ 34 → ⊥
 
 -- the first n bytes are plain, and the next, if there is one, is not
 pub record PlainRun (s : List ℕ) (n : ℕ) : Type 0 where
-  pub plain : AllPlain (take n s)
+  pub plain : (k : ℕ) → k < n → Plain (slice_index s k)
   pub within : n ≤ length s
   pub stops : n < length s → Plain (slice_index s n) → ⊥
 

@@ -1,5 +1,5 @@
 // One field of a text, and what ends it.
-ghost use Rattle.std.specs.Prelude.{◌≡◌, ◌^◌, ◌<◌, ◌≤◌, false, [], length, Decides, MatchOption, MatchResult, ◌≢◌, slice_index};
+ghost use Rattle.std.specs.Prelude.{◌≡◌, ◌^◌, ◌<◌, ◌≤◌, false, [], length, MatchOption, MatchResult, ◌≢◌, slice_index};
 ghost use Rattle.text.specs.Grammar.{Plain};
 ghost use Rattle.text.specs.FirstLine.{LineAt};
 ghost use Rattle.text.specs.Scans.{PlainTo, Closes, Unclosed, Spans, MarkTo, PlainRun, past};
@@ -88,20 +88,13 @@ impl Span {
     }
 }
 
-// Whether an unquoted field may hold the byte.
-fn is_plain(b: u8) -> bool
-    ensures { Decides result (Plain b) }
-{
-    !matches!(b, b',' | b'"' | b'\r' | b'\n')
-}
-
 // How many of the first bytes are plain.
 fn plain_run(bytes: &[u8]) -> usize
     ensures { PlainRun bytes.now result }
 {
     bytes
         .iter()
-        .position(|b| !is_plain(*b))
+        .position(|b| matches!(b, b',' | b'"' | b'\r' | b'\n'))
         .unwrap_or(bytes.len())
 }
 
