@@ -1,12 +1,12 @@
 -- Where a mark stands, and where a quote closes. Assumes nothing.
-use Rattle.std.proofs.Common.{◌≡◌, ℕ, ◌+◌, ◌<◌, ◌≤◌, List, [], ◌∷◌, ◌++◌, length, get_or, drop, sym, refl, ap, ◌∙◌, ⊎_elim, append_assoc, append-nil, add-zero, arith, length-drop}
-use Rattle.std.proofs.lemmas.List.{drop_more, drop_all, get_or-drop}
+use Rattle.std.proofs.Common.{◌≡◌, ℕ, ◌+◌, ◌-◌, ◌<◌, ◌≤◌, List, [], ◌∷◌, ◌++◌, length, get_or, take, drop, sym, refl, ap, ◌∙◌, subst, ⊎_elim, append_assoc, append-nil, add-zero, arith, length-append, length-drop}
+use Rattle.std.proofs.lemmas.List.{drop_more, drop_all, drop_at, drop-drop, take_rest, get_or-drop}
 use Rattle.std.proofs.lemmas.Bool.{cases_lt}
 use Rattle.text.specs.declared.field.Mark.{Mark}
 use Rattle.text.specs.declared.field.Mark.TheVariants.{Comma, Line, End}
 use Rattle.text.specs.Grammar.{escape, sign, Ends}
 use Rattle.text.specs.FirstLine.{LineAt}
-use Rattle.text.specs.Scans.{EscapedTo, Unclosed, NoQuote, MarkTo}
+use Rattle.text.specs.Scans.{Unclosed, Closes, NoQuote, MarkTo}
 use Rattle.text.proofs.Contents.{escape_other, escape_append}
 
 pub mark_end : (s : List ℕ) (i : ℕ) → i ≡ length s → MarkTo s i End i
@@ -40,29 +40,32 @@ no_mark s i l n m Line rest e f =
     m (inside, k, h)
 no_mark s i l n m End rest e f = let d = drop_more s i 0 l in let b : get_or s i 0 ∷ drop (i + 1) s ≡ [] = cc in let z : ◌≡◌ {A = ℕ} 0 1 = cc in omega arith
 
-pub escaped_other : (s : List ℕ) (from i : ℕ) → i < length s → EscapedTo s from i → (get_or s i 0 ≡ 34 → ⊥) → EscapedTo s from (i + 1)
-escaped_other s from i l h n =
-    let b = get_or s i 0 in
-    let d = drop_more s i 0 l in
-    let o = escape_other [] b n in
-    let a = escape_append h.0 (b ∷ []) in (
-      h.0 ++ b ∷ [],
-      h.1 ∙ ap (λ u. escape h.0 ++ u) (d ∙ ap (λ u. u ++ drop (i + 1) s) (sym o)) ∙ sym (append_assoc (escape h.0) (escape (b ∷ [])) (drop (i + 1) s)) ∙ ap (λ u. u ++ drop (i + 1) s) (sym a),
-    )
+-- the bytes from `from` on are an escaped content, and then rest
+pub record EscapedBefore (s : List ℕ) (from : ℕ) (rest : List ℕ) : Type 0 where
+  pub content : List ℕ
+  pub split : drop from s ≡ escape content ++ rest
 
-pub escaped_quote : (s : List ℕ) (from i : ℕ) → i + 1 < length s → EscapedTo s from i → get_or s i 0 ≡ 34 → get_or s (i + 1) 0 ≡ 34 → EscapedTo s from (i + 2)
-escaped_quote s from i l h e f =
-    let d = drop_more s i 0 (omega arith) in
-    let g = drop_more s (i + 1) 0 l in
-    let k : i + 1 + 1 ≡ i + 2 = omega arith in
-    let o : drop i s ≡ 34 ∷ (34 ∷ drop (i + 2) s) = cc in
-    let a = escape_append h.0 (34 ∷ []) in (
-      h.0 ++ 34 ∷ [],
-      h.1 ∙ ap (λ u. escape h.0 ++ u) o ∙ sym (append_assoc (escape h.0) (34 ∷ (34 ∷ [])) (drop (i + 2) s)) ∙ ap (λ u. u ++ drop (i + 2) s) (sym a),
-    )
+pub escaped_none : (s : List ℕ) (from : ℕ) → EscapedBefore s from (drop from s)
+escaped_none s from = record { content = []; split = refl }
 
-pub escaped_all : (s : List ℕ) (from i : ℕ) → length s ≤ i → EscapedTo s from i → Unclosed s from
-escaped_all s from i l h = (h.0, h.1 ∙ ap (λ u. escape h.0 ++ u) (drop_all i s l) ∙ append-nil (escape h.0))
+escaped_more : (s : List ℕ) (from : ℕ) (rest piece after : List ℕ) (b : ℕ) → EscapedBefore s from rest → escape (b ∷ []) ≡ piece → rest ≡ piece ++ after → EscapedBefore s from after
+escaped_more s from rest piece after b h e k = record {
+  content = h.content ++ b ∷ [];
+  split = h.split ∙ ap (λ u. escape h.content ++ u) (k ∙ ap (λ u. u ++ after) (sym e)) ∙ sym (append_assoc (escape h.content) (escape (b ∷ [])) after) ∙ ap (λ u. u ++ after) (sym (escape_append h.content (b ∷ [])));
+}
+
+pub escaped_other : (s : List ℕ) (from : ℕ) (rest : List ℕ) → EscapedBefore s from rest → 0 < length rest → (get_or rest 0 0 ≡ 34 → ⊥) → EscapedBefore s from (take (length rest - 1) (drop 1 rest))
+escaped_other s from rest h l n = rw (take_rest rest 1) (escaped_more s from rest (get_or rest 0 0 ∷ []) (drop 1 rest) (get_or rest 0 0) h (escape_other [] (get_or rest 0 0) n) (drop_more rest 0 0 l))
+
+pub escaped_quote : (s : List ℕ) (from : ℕ) (rest : List ℕ) → EscapedBefore s from rest → 1 < length rest → get_or rest 0 0 ≡ 34 → get_or rest 1 0 ≡ 34 → EscapedBefore s from (take (length rest - 2) (drop 2 rest))
+escaped_quote s from rest h l e f =
+    let d : rest ≡ get_or rest 0 0 ∷ drop 1 rest = drop_more rest 0 0 (omega arith) in
+    let g : drop 1 rest ≡ get_or rest 1 0 ∷ drop 2 rest = drop_more rest 1 0 l in
+    let two : rest ≡ 34 ∷ (34 ∷ drop 2 rest) = cc in
+    rw (take_rest rest 2) (escaped_more s from rest (34 ∷ (34 ∷ [])) (drop 2 rest) 34 h refl two)
+
+pub escaped_all : (s : List ℕ) (from : ℕ) (rest : List ℕ) → EscapedBefore s from rest → rest ≡ [] → Unclosed s from
+escaped_all s from rest h e = (h.content, h.split ∙ ap (λ u. escape h.content ++ u) e ∙ append-nil (escape h.content))
 
 -- the first byte of what is left from i on
 pub head_at : (s : List ℕ) (i : ℕ) → get_or (drop i s) 0 0 ≡ get_or s i 0
@@ -75,3 +78,20 @@ no_quote s i n e =
     (λ l. n l (sym (head_at s i) ∙ e))
     (λ l. let z : ◌≡◌ {A = ℕ} 0 34 = sym (ap (λ u. get_or u 0 0) (drop_all i s l)) ∙ e in omega arith)
     (cases_lt i (length s))
+
+-- what is left begins with one quote, which closes the content
+pub escaped_close : (s : List ℕ) (from : ℕ) (rest : List ℕ) → EscapedBefore s from rest → from ≤ length s → 0 < length rest → get_or rest 0 0 ≡ 34 → (1 < length rest → get_or rest 1 0 ≡ 34 → ⊥) → Closes s from (length s - length rest)
+escaped_close s from rest h w l e n =
+    let i : ℕ = length s - length rest in
+    let long = ap length h.split in
+    let parts = length-append (escape h.content) rest in
+    let a = length-drop from s in
+    let at : from + length (escape h.content) ≡ i = omega arith in
+    let left : drop i s ≡ rest = ap (λ k. drop k s) (sym at) ∙ sym (drop-drop (length (escape h.content)) from s) ∙ ap (drop (length (escape h.content))) h.split ∙ drop_at (escape h.content) rest _ refl in
+    record {
+      content = (h.content, h.split ∙ ap (λ u. escape h.content ++ u) (sym left));
+      after = omega arith;
+      within = omega arith;
+      quote = sym (head_at s i) ∙ ap (λ u. get_or u 0 0) left ∙ e;
+      once = subst NoQuote (ap (drop 1) (sym left) ∙ drop-drop 1 i s) (no_quote rest 1 n);
+    }

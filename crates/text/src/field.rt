@@ -2,12 +2,14 @@
 ghost use Rattle.std.specs.Prelude.{◌≡◌, ◌^◌, ◌<◌, ◌≤◌, false, [], length, MatchOption, MatchResult, ◌≢◌, slice_index};
 ghost use Rattle.text.specs.Grammar.{Plain};
 ghost use Rattle.text.specs.FirstLine.{LineAt};
-ghost use Rattle.text.specs.Scans.{PlainTo, Closes, Unclosed, Spans, MarkTo, past};
+ghost use Rattle.text.specs.Scans.{PlainTo, Closes, Unclosed, Spans, MarkTo, PlainRun, past};
 ghost use Rattle.text.specs.Faults.{Wrong};
 ghost use Rattle.text.specs.Taken.{Took};
 
+use crate::reader::Reader;
+
 // What ends a field: a comma, CR LF, or the text's end.
-#[derive(Clone, Copy)]
+#[derive(Clone, Copy, PartialEq, Eq, Debug)]
 pub enum Mark {
     Comma,
     Line,
@@ -16,7 +18,7 @@ pub enum Mark {
 
 // One field: the bytes between its marks with the quotes taken off, the place of the first and the place after the last,
 // whether it stood in quotes, and what ends it.
-#[derive(Clone, Copy)]
+#[derive(Clone, Copy, PartialEq, Eq, Debug)]
 pub struct Field<'a> {
     pub bytes: &'a [u8],
     pub start: usize,
@@ -39,11 +41,22 @@ impl<'a> Field<'a> {
             mark: Mark::End,
         }
     }
+
+    // Where the field stands.
+    pub(crate) fn span(&self) -> Span
+        ensures { (result.quoted ≡ self.now.quoted) × (result.start ≡ self.now.start) × (result.end ≡ self.now.end) }
+    {
+        Span {
+            quoted: self.quoted,
+            start: self.start,
+            end: self.end,
+        }
+    }
 }
 
 // What is wrong with a record, and the place, counted from 0 in the text: that of the byte, but for an open quote and a wrong
 // number of fields the record's end.
-#[derive(Clone, Copy)]
+#[derive(Clone, Copy, PartialEq, Eq, Debug)]
 pub enum TextFault {
     // a CR or an LF outside quotes that is no part of a CR LF
     BareLineEnd(usize),
@@ -58,123 +71,120 @@ pub enum TextFault {
 }
 
 // Where a field stands: quotes are not counted in.
-#[derive(Clone, Copy)]
-struct Span {
+#[derive(Clone, Copy, PartialEq, Eq, Debug)]
+pub(crate) struct Span {
     quoted: bool,
     start: usize,
     end: usize,
 }
 
-// The first place from `from` on that holds no plain byte, or the text's end.
-fn plain_end(text: &[u8], from: usize) -> usize
-    requires { from ≤ length text.now }
-    ensures within { (from ≤ result) × (result ≤ length text.now) }
-    ensures run { PlainTo text.now from result }
-    ensures stops { result < length text.now → Plain (slice_index text.now result) → ⊥ }
+impl Span {
+    // The place after the closing quote where the field is quoted, else that after its last byte.
+    pub(crate) fn past_quote(&self) -> usize
+        requires { past self.now.quoted self.now.end < 2 ^ 64 }
+        ensures { result ≡ past self.now.quoted self.now.end }
+    {
+        if self.quoted { self.end + 1 } else { self.end }
+    }
+}
+
+// How many of the first bytes are plain.
+fn plain_run(bytes: &[u8]) -> usize
+    ensures { PlainRun bytes.now result }
 {
-    let mut i = from;
-    while i < text.len() {
-        let b = text[i];
-        if b == b',' || b == b'"' || b == b'\r' || b == b'\n' {
-            break;
+    bytes
+        .iter()
+        .position(|b| matches!(b, b',' | b'"' | b'\r' | b'\n'))
+        .unwrap_or(bytes.len())
+}
+
+// What a reader finds from its place on.
+impl<'a> Reader<'a> {
+    // The first place that holds no plain byte, or the text's end.
+    fn plain_end(&self) -> usize
+        ensures within { (self.now.at ≤ result) × (result ≤ length self.now.text.now) }
+        ensures run { PlainTo self.now.text.now self.now.at result }
+        ensures stops { result < length self.now.text.now → Plain (slice_index self.now.text.now result) → ⊥ }
+    {
+        self.at + plain_run(&self.text[self.at..])
+    }
+
+    // The place of the quote that closes the content that begins here, if any does.
+    fn quote_end(&self) -> Option<usize>
+        ensures { MatchOption result (Unclosed self.now.text.now self.now.at) (λ i. Closes self.now.text.now self.now.at i) }
+    {
+        let text = self.text;
+        let mut rest = &text[self.at..];
+        'content: loop {
+            match rest {
+                [] => return None,
+                [b'"', b'"', after @ ..] => rest = after,
+                [b'"', ..] => return Some(text.len() - rest.len()),
+                [_, after @ ..] => rest = after,
+            }
         }
-        i += 1;
     }
-    i
-}
 
-// The place of the quote that closes the content that begins at `from`, if any does.
-fn quote_end(text: &[u8], from: usize) -> Option<usize>
-    requires { from ≤ length text.now }
-    ensures { MatchOption result (Unclosed text.now from) (λ i. Closes text.now from i) }
-{
-    let mut i = from;
-    while i < text.len() {
-        if text[i] != b'"' {
-            i += 1;
-        } else if i + 1 < text.len() && text[i + 1] == b'"' {
-            i += 2;
-        } else {
-            return Some(i);
+    // The mark that stands here, if one does, and the place after it.
+    fn mark(&self) -> Option<(Mark, usize)>
+        ensures { MatchOption result ((self.now.at < length self.now.text.now) × (slice_index self.now.text.now self.now.at ≢ 44) × (LineAt self.now.text.now self.now.at → ⊥)) (λ m. MarkTo self.now.text.now self.now.at m.0 m.1) }
+    {
+        match &self.text[self.at..] {
+            [] => Some((Mark::End, self.at)),
+            [b',', ..] => Some((Mark::Comma, self.at + 1)),
+            [b'\r', b'\n', ..] => Some((Mark::Line, self.at + 2)),
+            _ => None,
         }
     }
-    None
-}
 
-// The mark at `i`, and the place after it, if one stands there.
-fn mark_at(text: &[u8], i: usize) -> Option<(Mark, usize)>
-    requires { i ≤ length text.now }
-    ensures { MatchOption result ((i < length text.now) × (slice_index text.now i ≢ 44) × (LineAt text.now i → ⊥)) (λ m. MarkTo text.now i m.0 m.1) }
-{
-    if i == text.len() {
-        return Some((Mark::End, i));
-    }
-    if text[i] == b',' {
-        return Some((Mark::Comma, i + 1));
-    }
-    if text[i] == b'\r' && i + 1 < text.len() && text[i + 1] == b'\n' {
-        return Some((Mark::Line, i + 2));
-    }
-    None
-}
-
-// Where the field that begins at `at` stands; refused where its quote is open.
-fn span_at(text: &[u8], at: usize) -> Result<Span, TextFault>
-    requires { at ≤ length text.now }
-    ensures { MatchResult result (λ p. Spans text.now at p) (λ e. Wrong text.now at e) }
-{
-    if at < text.len() && text[at] == b'"' {
-        let start = at + 1;
-        let Some(end) = quote_end(text, start) else {
-            return Err(TextFault::OpenQuote(text.len()));
+    // Where the field that begins here stands; refused where its quote is open.
+    fn span(&self) -> Result<Span, TextFault>
+        ensures { MatchResult result (λ p. Spans self.now.text.now self.now.at p) (λ e. Wrong self.now.text.now self.now.at e) }
+    {
+        let text = self.text;
+        let [b'"', ..] = &text[self.at..] else {
+            return Ok(Span {
+                quoted: false,
+                start: self.at,
+                end: self.plain_end(),
+            });
         };
-        return Ok(Span {
-            quoted: true,
-            start,
-            end,
-        });
+        let start = self.at + 1;
+        let content = Reader { text, at: start };
+        match content.quote_end() {
+            Some(end) => Ok(Span {
+                quoted: true,
+                start,
+                end,
+            }),
+            None => Err(TextFault::OpenQuote(text.len())),
+        }
     }
-    let end = plain_end(text, at);
-    Ok(Span {
-        quoted: false,
-        start: at,
-        end,
-    })
-}
 
-// The place after the closing quote that stands at `place`, where the field is quoted, else `place`.
-pub(crate) fn past_quote(quoted: bool, place: usize) -> usize
-    requires { past quoted place < 2 ^ 64 }
-    ensures { result ≡ past quoted place }
-{
-    if quoted { place + 1 } else { place }
-}
-
-// The field that begins at `at`, and the place after its mark.
-pub(crate) fn field_at<'a>(text: &'a [u8], at: usize) -> Result<(Field<'a>, usize), TextFault>
-    requires { at ≤ length text.now }
-    ensures { MatchResult result (λ p. Took text.now at p.0 p.1) (λ e. Wrong text.now at e) }
-{
-    let Span { quoted, start, end } = span_at(text, at)?;
-    let after = past_quote(quoted, end);
-    if let Some((mark, next)) = mark_at(text, after) {
-        return Ok((
-            Field {
-                bytes: &text[start..end],
+    // The field that begins here, and the place after its mark.
+    pub(crate) fn field(&self) -> Result<(Field<'a>, usize), TextFault>
+        ensures { MatchResult result (λ p. Took self.now.text.now self.now.at p.0 p.1) (λ e. Wrong self.now.text.now self.now.at e) }
+    {
+        let text = self.text;
+        let span = self.span()?;
+        let Span { quoted, start, end } = span;
+        let after = span.past_quote();
+        let stop = Reader { text, at: after };
+        if let Some((mark, next)) = stop.mark() {
+            let bytes = &text[start..end];
+            let field = Field {
+                bytes,
                 start,
                 end,
                 quoted,
                 mark,
-            },
-            next,
-        ));
+            };
+            return Ok((field, next));
+        }
+        match text[after] {
+            b'\r' | b'\n' => Err(TextFault::BareLineEnd(after)),
+            _ if quoted => Err(TextFault::AfterQuote(after)),
+            _ => Err(TextFault::StrayQuote(after)),
+        }
     }
-    let b = text[after];
-    if b == b'\r' || b == b'\n' {
-        return Err(TextFault::BareLineEnd(after));
-    }
-    if quoted {
-        return Err(TextFault::AfterQuote(after));
-    }
-    Err(TextFault::StrayQuote(after))
 }

@@ -7,14 +7,10 @@ fn first_line(text: &[u8]) -> (usize, usize)
     ensures line { FirstLine text.now result.0 result.1 }
     ensures within { (result.0 ≤ length text.now) × (result.1 ≤ length text.now) }
 {
-    let mut i = 0;
-    while i < text.len() {
-        if text[i] == b'\r' && i + 1 < text.len() && text[i + 1] == b'\n' {
-            return (i, i + 2);
-        }
-        i += 1;
+    match text.windows(2).position(|pair| matches!(pair, [b'\r', b'\n'])) {
+        Some(i) => (i, i + 2),
+        None => (text.len(), text.len()),
     }
-    (i, i)
 }
 
 // The place where the records begin, if the bytes before the first CR LF, or all, are the header.

@@ -4,14 +4,13 @@ ghost use Rattle.text.specs.Taken.{Took, Handed, Skipped};
 ghost use Rattle.text.specs.Laws.{OneField, OneFault, OneCause};
 ghost use Rattle.text.specs.Faults.{FieldRefused, RecordRefused, ColumnsRefused};
 
-use crate::field::{Field, TextFault, field_at};
-use crate::record::record_at;
+use crate::field::{Field, TextFault};
 
 // A reader over lent bytes, and the place where it stands.
-#[derive(Drop)]
+#[derive(Clone, Copy)]
 pub struct Reader<'a> {
-    text: &'a [u8],
-    at: usize,
+    pub(crate) text: &'a [u8],
+    pub(crate) at: usize,
     ghost within: { at ≤ length text.now },
 }
 
@@ -48,7 +47,7 @@ impl<'a> Reader<'a> {
         ensures same { self.new.text ≡ self.old.text }
         ensures field { MatchResult result (λ f. Took self.old.text.now self.old.at f self.new.at) (λ e. FieldRefused self.old.text.now self.old.at e × (self.new.at ≡ self.old.at)) }
     {
-        let (field, next) = field_at(self.text, self.at)?;
+        let (field, next) = self.field()?;
         self.at = next;
         Ok(field)
     }
@@ -60,7 +59,7 @@ impl<'a> Reader<'a> {
         ensures fields { MatchResult result (λ _. Handed self.old.text.now self.old.at slots.new self.new.at) (λ e. ColumnsRefused self.old.text.now self.old.at slots.old slots.new e × (self.new.at ≡ self.old.at)) }
         ensures once { OneField × OneFault × OneCause }
     {
-        let extent = record_at(self.text, self.at, slots)?;
+        let extent = self.record(slots)?;
         if extent.count != slots.len() {
             return Err(TextFault::FieldCount(extent.end));
         }
@@ -73,7 +72,7 @@ impl<'a> Reader<'a> {
         ensures same { self.new.text ≡ self.old.text }
         ensures count { MatchResult result (λ n. Skipped self.old.text.now self.old.at n self.new.at) (λ e. RecordRefused self.old.text.now self.old.at e × (self.new.at ≡ self.old.at)) }
     {
-        let extent = record_at(self.text, self.at, &mut [])?;
+        let extent = self.record(&mut [])?;
         self.at = extent.next;
         Ok(extent.count)
     }

@@ -2,10 +2,11 @@
 ghost use Rattle.std.specs.Prelude.{◌≡◌, ◌≤◌, length, MatchResult, slice_set};
 ghost use Rattle.text.specs.Extents.{ReadRecord, BrokenRecord};
 
-use crate::field::{Field, Mark, TextFault, field_at, past_quote};
+use crate::field::{Field, Mark, TextFault};
+use crate::reader::Reader;
 
 // How far a record goes: its number of fields, the place of its end, and the place after that.
-#[derive(Clone, Copy)]
+#[derive(Clone, Copy, PartialEq, Eq, Debug)]
 pub(crate) struct Extent {
     pub(crate) count: usize,
     pub(crate) end: usize,
@@ -21,28 +22,25 @@ fn keep<'a>(slots: &mut [Field<'a>], i: usize, field: Field<'a>)
     }
 }
 
-// Reads the record that begins at `from` to its end, and keeps the first of its fields in `slots`.
-pub(crate) fn record_at<'a>(
-    text: &'a [u8],
-    from: usize,
-    slots: &mut [Field<'a>],
-) -> Result<Extent, TextFault>
-    requires { from ≤ length text.now }
-    ensures { MatchResult result (λ x. ReadRecord text.now from slots.old slots.new x) (λ e. BrokenRecord text.now from slots.old slots.new e) }
-{
-    let mut at = from;
-    let mut count = 0;
-    loop {
-        let (field, next) = field_at(text, at)?;
-        keep(slots, count, field);
-        count += 1;
-        let Mark::Comma = field.mark else {
-            return Ok(Extent {
-                count,
-                end: past_quote(field.quoted, field.end),
-                next,
-            });
-        };
-        at = next;
+impl<'a> Reader<'a> {
+    // Reads the record that begins here to its end, and keeps the first of its fields in `slots`.
+    pub(crate) fn record(&self, slots: &mut [Field<'a>]) -> Result<Extent, TextFault>
+        ensures { MatchResult result (λ x. ReadRecord self.now.text.now self.now.at slots.old slots.new x) (λ e. BrokenRecord self.now.text.now self.now.at slots.old slots.new e) }
+    {
+        let mut reader = *self;
+        let mut count = 0;
+        loop {
+            let field = reader.next_field()?;
+            keep(slots, count, field);
+            count += 1;
+            if field.mark != Mark::Comma {
+                let span = field.span();
+                return Ok(Extent {
+                    count,
+                    end: span.past_quote(),
+                    next: reader.at,
+                });
+            }
+        }
     }
 }

@@ -8,7 +8,7 @@ use crate::field::{Field, Mark, TextFault};
 use crate::reader::Reader;
 
 // The first wrong record, counted from 1, and what is wrong with it.
-#[derive(Clone, Copy)]
+#[derive(Clone, Copy, PartialEq, Eq, Debug)]
 pub struct WrongRecord {
     pub number: usize,
     pub fault: TextFault,
