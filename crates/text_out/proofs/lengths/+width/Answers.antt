@@ -1,6 +1,6 @@
 use Rattle.std.proofs.Common.{sym, arith}
 use Rattle.text_out.proofs.Stored.{width_one, width_more, width_le}
-use Rattle.text_out.proofs.+width.Goals as goal
+use Rattle.text_out.proofs.lengths.+width.Goals as goal
 
 pub overflow_add-result : goal.overflow_add-result
 overflow_add-result t c = omega (arith, c.width.ensures)
