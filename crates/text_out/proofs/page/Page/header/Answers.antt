@@ -1,8 +1,5 @@
-use Rattle.text_out.proofs.Pages.{room_first, room_then, append_then}
+use Rattle.text_out.proofs.Pages.{room_then, append_then}
 use Rattle.text_out.proofs.page.Page.header.Goals as goal
-
-pub bytes-requires : goal.bytes-requires
-bytes-requires c = room_first _ c.requires
 
 pub bytes-requires-2 : goal.bytes-requires-2
 bytes-requires-2 c = room_then c.requires c.bytes.ensures

@@ -1,13 +1,7 @@
 use Rattle.std.proofs.Common.{sym, refl, ap}
 use Rattle.text_out.specs.Written.{further, line}
-use Rattle.text_out.proofs.Pages.{room_is, room_first, room_then, room_item, append_none, append_is, append_then, append_item, append_all}
+use Rattle.text_out.proofs.Pages.{room_is, room_first, room_then, room_item, append_is, append_then, append_item, append_all}
 use Rattle.text_out.proofs.page.Page.line.Goals as goal
-
-pub number-requires : goal.number-requires
-number-requires c = room_first _ (room_is (ap line c.in-Some.ensures.cases.0) c.requires)
-
-pub loop-n-init : goal.loop-n-init
-loop-n-init c = append_none _
 
 pub further-requires : goal.further-requires
 further-requires c =
