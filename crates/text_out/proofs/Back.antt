@@ -1,5 +1,5 @@
 -- A written table is read back. Assumes nothing.
-use Rattle.std.proofs.Common.{◌≡◌, ℕ, ◌+◌, ◌^◌, ◌<◌, ◌≤◌, false, List, [], ◌∷◌, ◌++◌, map, length, drop, decimal, sym, refl, ap, ◌∙◌, subst, inl, ⊎_elim, append_assoc, arith, length-append, rules}
+use Rattle.std.proofs.Common.{◌≡◌, ℕ, ◌+◌, ◌^◌, ◌<◌, ◌≤◌, false, List, [], ◌∷◌, ◌++◌, map, length, take, drop, decimal, sym, refl, ap, ◌∙◌, subst, inl, ⊎_elim, append_assoc, arith, length-append, rules}
 use Rattle.std.specs.List.{flat_map}
 use Rattle.std.proofs.lemmas.Fmt.{digits_decimal, digits_value-decimal, length-decimal-le, decimal_nonempty, first_decimal, decimal_digit}
 use Rattle.std.proofs.lemmas.List.{take_at, drop_at, get_or_at, get_or_append_left, get_or-append-add}
@@ -15,7 +15,8 @@ use Rattle.text.proofs.Digits.{power_le}
 use Rattle.text.proofs.Lines.{headed_unique}
 use Rattle.text.proofs.Once.{reading_unique}
 use Rattle.text_out.specs.Written.{newline, further, line, header_line, table}
-use Rattle.text_out.specs.Tables.{Writes, WritesAll, Table, OneLine, Small, Writable, RoundTrip}
+use Rattle.text_out.specs.Tables.{Writes, WritesAll, Table, OneLine, Small, Writable, Back, RoundTrip}
+use Rattle.text_out.specs.Stores.{Put}
 
 own : IsNumeralModel AllDigits (value_after 0)
 own = numerals_by_fold _ (search rules) value_after (search rules)
@@ -131,3 +132,6 @@ round_trip header rs limit some few one w =
       numbers = writes_all limit some few rs w;
     } in
     record { reads = t; once = λ qs k. table_unique limit header (table header rs) qs rs k t }
+
+pub back_put : (header old new : List ℕ) (rs : List (List ℕ)) (end : ℕ) → Put old 0 (table header rs) end new → Back header rs (take end new)
+back_put header old new rs end h = subst (Back header rs) (sym h.front) (round_trip header rs)

@@ -1,2 +1,4 @@
 pub mod Stored
+pub mod Pages
+pub mod AddedUp
 pub mod Back

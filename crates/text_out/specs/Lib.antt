@@ -1,3 +1,4 @@
 pub mod Written
 pub mod Stores
 pub mod Tables
+pub mod Pages

@@ -18,3 +18,15 @@ Stored old at text (Err TooShort) new = (length old < at + length text) × (new 
 abbrev pub Measured : List ℕ → Option ℕ → Type 0
 Measured text (Some n) = n ≡ length text
 Measured text None = 2 ^ 64 ≤ length text
+
+-- the length with the text after it, or none where no buffer holds that many
+abbrev pub Lengthened : ℕ → List ℕ → Option ℕ → Type 0
+Lengthened len text (Some n) = n ≡ len + length text
+Lengthened len text None = 2 ^ 64 ≤ len + length text
+
+-- the text of that length goes into a buffer of this size from `at` on, or the buffer is too short for it
+abbrev pub Fits : Option ℕ → ℕ → ℕ → Result (Unit {0}) WriteFault → Type 0
+Fits (Some n) at size (Ok _) = at + n ≤ size
+Fits None at size (Ok _) = ⊥
+Fits (Some n) at size (Err TooShort) = size < at + n
+Fits None at size (Err TooShort) = Unit {0}

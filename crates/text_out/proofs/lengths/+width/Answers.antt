@@ -1,9 +1,6 @@
 use Rattle.std.proofs.Common.{sym, arith}
 use Rattle.text_out.proofs.Stored.{width_one, width_more, width_le}
-use Rattle.text_out.proofs.+width.Goals as goal
-
-pub overflow_add-result : goal.overflow_add-result
-overflow_add-result t c = omega (arith, c.width.ensures)
+use Rattle.text_out.proofs.lengths.+width.Goals as goal
 
 pub returns-then-n-lt10 : goal.returns-then-n-lt10
 returns-then-n-lt10 t c = let e = width_one c.args.n c.if-n-lt10.true in record { value = sym e; bound = omega arith }

@@ -1,4 +1,4 @@
-use Rattle.text_out.proofs.+width.Given as goal
+use Rattle.text_out.proofs.lengths.+width.Given as goal
 
 abbrev pub decreases-width : goal.decreases-width
 decreases-width l = l.n
