@@ -6,22 +6,14 @@ ghost use Rattle.script.specs.Lines.{NoLf, FirstLf, WithoutCr, FirstLine};
 fn first_lf(script: &[u8]) -> Option<usize>
     ensures { MatchOption result (NoLf script.now) (λ i. FirstLf script.now i) }
 {
-    for (i, byte) in script.iter().enumerate() {
-        if *byte == b'\n' {
-            return Some(i);
-        }
-    }
-    None
+    script.iter().position(|byte| *byte == b'\n')
 }
 
 // The line without the one CR that may stand before its LF.
 fn without_cr(line: &[u8]) -> &[u8]
     ensures { WithoutCr line.now result.now }
 {
-    match line.strip_suffix(b"\r") {
-        Some(shorter) => shorter,
-        None => line,
-    }
+    line.strip_suffix(b"\r").unwrap_or(line)
 }
 
 // The first line, without its end, and what follows it; none where the script is at its end. The last line needs no LF.

@@ -59,10 +59,7 @@ fn unit_at(typed: &[u8], at: usize) -> Option<(u8, usize)>
 fn inside(typed: &[u8]) -> Option<&[u8]>
     ensures { MatchOption result ((inner : List ℕ) → Quoted typed.now inner → ⊥) (λ p. Quoted typed.now p.now) }
 {
-    match typed.strip_prefix(b"\"") {
-        Some(opened) => opened.strip_suffix(b"\""),
-        None => None,
-    }
+    typed.strip_prefix(b"\"")?.strip_suffix(b"\"")
 }
 
 // The bytes that the typed text, without its quotes, stands for.
