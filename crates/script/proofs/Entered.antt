@@ -5,7 +5,7 @@ use Rattle.std.specs.Fmt.{IsPlainFormatter, HasWritten}
 use Rattle.std.proofs.Output.{writes_in_calls_nil, has_written_append, has_written_of_eq}
 use Rattle.std.proofs.lemmas.List.{take_more, take_all}
 use Rattle.script.specs.declared.fields.Place.{Place}
-use Rattle.script.specs.Entries.{entry_text, entries, list_text}
+use Rattle.script.specs.Entries.{opening, place_text, entries, list_text}
 
 -- whether the next place begins a record
 abbrev pub opens : Bool → List Place → Bool
@@ -13,7 +13,7 @@ opens first [] = first
 opens first (p ∷ ps) = opens p.last ps
 
 abbrev pub entry : Bool → Place → List ℕ
-entry first p = entry_text first p.last p.start p.end
+entry first p = opening first ++ place_text p
 
 entries_push : (first : Bool) (ps : List Place) (p : Place) → entries first (ps ++ (p ∷ [])) ≡ entries first ps ++ entry (opens first ps) p
 entries_push first [] p = append-nil (entry first p)
@@ -31,12 +31,12 @@ module _ {W : Type 0} (took : W → List ℕ → W → Type 0) where
   none_entered f p = record { wrote = writes_in_calls_nil took f.writer; plain = p }
 
   -- one place on
-  pub entered_more : (f g h : Formatter W) (ps : List Place) (i : ℕ) (first : Bool) (d : Place) → i < length ps → first ≡ opens true (take i ps) → (IsPlainFormatter f → HasWritten took f (entries true (take i ps)) g) → (IsPlainFormatter g → HasWritten took g (entry first (get_or ps i d)) h) → IsPlainFormatter f → HasWritten took f (entries true (take (i + 1) ps)) h
-  entered_more f g h ps i first d l o before now plain =
+  pub entered_more : (f g h : Formatter W) (ps : List Place) (i : ℕ) (o : List ℕ) (d : Place) → i < length ps → o ≡ opening (opens true (take i ps)) → (IsPlainFormatter f → HasWritten took f (entries true (take i ps)) g) → (IsPlainFormatter g → HasWritten took g (o ++ place_text (get_or ps i d)) h) → IsPlainFormatter f → HasWritten took f (entries true (take (i + 1) ps)) h
+  entered_more f g h ps i o d l e before now plain =
       let p = get_or ps i d in
       let b = before plain in
-      let whole = has_written_append took f (entries true (take i ps)) g (entry first p) h b (now b.plain) in
-      let same : entries true (take i ps) ++ entry first p ≡ entries true (take (i + 1) ps) = ap (λ t. entries true (take i ps) ++ entry t p) o ∙ sym (entries_push true (take i ps) p) ∙ sym (ap (entries true) (take_more ps i d l)) in
+      let whole = has_written_append took f (entries true (take i ps)) g (o ++ place_text p) h b (now b.plain) in
+      let same : entries true (take i ps) ++ (o ++ place_text p) ≡ entries true (take (i + 1) ps) = ap (λ t. entries true (take i ps) ++ (t ++ place_text p)) e ∙ sym (entries_push true (take i ps) p) ∙ sym (ap (entries true) (take_more ps i d l)) in
       has_written_of_eq took f _ _ h same whole
 
   -- all of them, after the number of records

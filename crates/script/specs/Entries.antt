@@ -2,17 +2,24 @@
 use Rattle.std.specs.Prelude.{ℕ, Bool, true, false, List, [], ◌∷◌, ◌++◌, codes, decimal}
 use Rattle.script.specs.declared.fields.Place.{Place}
 
--- one place: whether it is the first of its record, whether it is the last, where it starts and where it ends
-abbrev pub entry_text : Bool → Bool → ℕ → ℕ → List ℕ
-entry_text true true start end = codes " (" ++ (decimal start ++ (codes "-" ++ (decimal end ++ codes ")")))
-entry_text true false start end = codes " (" ++ (decimal start ++ (codes "-" ++ decimal end))
-entry_text false true start end = codes " " ++ (decimal start ++ (codes "-" ++ (decimal end ++ codes ")")))
-entry_text false false start end = codes " " ++ (decimal start ++ (codes "-" ++ decimal end))
+-- before a field: a parenthesis opens where it is the first of its record
+abbrev pub opening : Bool → List ℕ
+opening true = codes " ("
+opening false = codes " "
+
+-- after a field: a parenthesis closes where it is the last of its record
+abbrev pub closing : Bool → List ℕ
+closing true = codes ")"
+closing false = []
+
+-- one place: where it starts and where it ends, and what closes after it
+abbrev pub place_text : Place → List ℕ
+place_text p = decimal p.start ++ (codes "-" ++ (decimal p.end ++ closing p.last))
 
 -- these places, one after the other; `first` says whether the first of them begins a record
 abbrev pub entries : Bool → List Place → List ℕ
 entries first [] = []
-entries first (p ∷ ps) = entry_text first p.last p.start p.end ++ entries p.last ps
+entries first (p ∷ ps) = (opening first ++ place_text p) ++ entries p.last ps
 
 -- the number of records, and all places
 unfoldable pub list_text : ℕ → List Place → List ℕ

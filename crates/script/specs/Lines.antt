@@ -1,5 +1,6 @@
 -- How a script is cut into lines.
-use Rattle.std.specs.Prelude.{◌≡◌, ℕ, ◌<◌, ◌⊎◌, List, [], ◌∷◌, ◌++◌, length, ◌≢◌, slice_index, slice_index_or}
+use Rattle.std.specs.Prelude.{◌≡◌, ℕ, ◌<◌, ◌⊎◌, List, [], ◌∷◌, ◌++◌, length, Option, MatchOption, ◌≢◌, slice_index, slice_index_or}
+use Rattle.std.specs.Borrow.{Bor}
 
 -- no byte is an LF
 abbrev pub NoLf : List ℕ → Type 0
@@ -20,3 +21,7 @@ pub record FirstLine (script line after : List ℕ) : Type 0 where
   pub typed : List ℕ
   pub no_lf : NoLf typed
   pub cut : ((script ≡ typed ++ (10 ∷ after)) × WithoutCr typed line) ⊎ ((script ≡ typed) × (line ≡ typed) × (after ≡ []))
+
+-- the script's first line is handed out, and after is what follows it; nothing, where the script is at its end
+abbrev pub LineStep : List ℕ → Option (Bor (List ℕ)) → List ℕ → Type 0
+LineStep script r after = MatchOption r ((script ≡ []) × (after ≡ [])) (λ line. FirstLine script line.now after)

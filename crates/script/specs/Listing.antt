@@ -1,5 +1,5 @@
 -- The places of a text's fields, record by record.
-use Rattle.std.specs.Prelude.{◌≡◌, ℕ, ◌<◌, ◌≤◌, Bool, true, false, List, [], ◌∷◌, length, drop, Ok, Err, vec_items, Result}
+use Rattle.std.specs.Prelude.{ℕ, ◌<◌, ◌≤◌, Bool, true, false, List, [], ◌∷◌, length, drop, Ok, Err, vec_items, Result}
 use Rattle.text.specs.declared.field.Field.{Field}
 use Rattle.text.specs.declared.field.Mark.{Mark}
 use Rattle.text.specs.declared.field.Mark.TheVariants.{Comma, Line, End}
@@ -33,7 +33,7 @@ pub data Listed (text : List ℕ) : Bool → ℕ → List Place → Type 0 where
   refused : {ended : Bool} {at : ℕ} → NoField (drop at text) → Listed text ended at []
   next : {ended : Bool} {at after : ℕ} {f : Field} {ps : List Place} → Begins text ended at → Took text at f after → Listed text (ends f.mark) after ps → Listed text ended at (place f ∷ ps)
 
--- the text has so many records, and its fields these places; or the record of this number is the first wrong one
-abbrev pub Told : List ℕ → Result FieldList ℕ → Type 0
+-- the text has so many records, and its fields these places; or this is its first wrong record
+abbrev pub Told : List ℕ → Result FieldList WrongRecord → Type 0
 Told text (Ok list) = Counted text list.records × Listed text true 0 (vec_items list.places)
-Told text (Err number) = (wrong : WrongRecord) × FirstWrong text wrong × (number ≡ wrong.number)
+Told text (Err wrong) = FirstWrong text wrong

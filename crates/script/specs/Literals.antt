@@ -1,5 +1,5 @@
 -- What a text in quotes stands for.
-use Rattle.std.specs.Prelude.{◌≡◌, ℕ, ◌+◌, ◌*◌, ◌≤◌, ◌⊎◌, List, [], ◌∷◌, ◌++◌, length, ◌≢◌, slice_index}
+use Rattle.std.specs.Prelude.{◌≡◌, ℕ, ◌+◌, ◌*◌, ◌≤◌, ◌⊎◌, List, [], ◌∷◌, ◌++◌, length, drop, ◌≢◌, slice_index}
 
 -- the lowercase hex digit c has the value x
 abbrev pub HexDigit : ℕ → ℕ → Type 0
@@ -31,6 +31,10 @@ HexAt typed at b next =
 -- one of the three
 abbrev pub UnitAt : List ℕ → ℕ → ℕ → ℕ → Type 0
 UnitAt typed at b next = PlainAt typed at b next ⊎ (ShortAt typed at b next ⊎ HexAt typed at b next)
+
+-- typed begins with the byte b, and rest is what follows it
+abbrev pub FirstUnit : List ℕ → ℕ → List ℕ → Type 0
+FirstUnit typed b rest = (next : ℕ) × UnitAt typed 0 b next × (rest ≡ drop next typed)
 
 -- from `at` to its end the typed text stands for these bytes
 pub data Spells (typed : List ℕ) : ℕ → List ℕ → Type 0 where

@@ -1,6 +1,6 @@
 // A text in quotes, as it is typed: bytes that print stand for themselves, and any byte may be escaped.
-ghost use Rattle.std.specs.Prelude.{ℕ, ◌<◌, List, length, IfOk, MatchOption};
-ghost use Rattle.script.specs.Literals.{HexDigit, ShortEscape, UnitAt, Spells, Quoted, Literal};
+ghost use Rattle.std.specs.Prelude.{ℕ, List, IfOk, MatchOption};
+ghost use Rattle.script.specs.Literals.{HexDigit, ShortEscape, UnitAt, FirstUnit, Spells, Quoted, Literal};
 
 use std::alloc::{AllocError, Global};
 
@@ -28,41 +28,26 @@ fn escaped(after: u8) -> Option<u8>
     }
 }
 
-// The byte that is typed at `at`, as it is or escaped, and the place after it.
-fn unit_at(typed: &[u8], at: usize) -> Option<(u8, usize)>
-    requires { at < length typed.now }
-    ensures { MatchOption result ((b next : ℕ) → UnitAt typed.now at b next → ⊥) (λ p. UnitAt typed.now at p.0 p.1) }
+// The byte that is typed first, as it is or escaped, and what is typed after it.
+fn unit(typed: &[u8]) -> Option<(u8, &[u8])>
+    ensures { MatchOption result ((b next : ℕ) → UnitAt typed.now 0 b next → ⊥) (λ p. FirstUnit typed.now p.0 p.1.now) }
 {
-    let left = typed.len() - at;
-    let first = typed[at];
-    if first != b'\\' {
-        if first < 32 || first > 126 || first == b'"' {
-            return None;
+    match typed {
+        [b'\\', b'x', high, low, rest @ ..] => {
+            Some((hex_value(*high)? * 16 + hex_value(*low)?, rest))
         }
-        return Some((first, at + 1));
+        [b'\\', letter, rest @ ..] => Some((escaped(*letter)?, rest)),
+        [b'\\' | b'"', ..] => None,
+        [byte @ b' '..=b'~', rest @ ..] => Some((*byte, rest)),
+        _ => None,
     }
-    if left < 2 {
-        return None;
-    }
-    if typed[at + 1] != b'x' {
-        return Some((escaped(typed[at + 1])?, at + 2));
-    }
-    if left < 4 {
-        return None;
-    }
-    let high = hex_value(typed[at + 2])?;
-    let low = hex_value(typed[at + 3])?;
-    Some((high * 16 + low, at + 4))
 }
 
 // What stands between the quotes.
 fn inside(typed: &[u8]) -> Option<&[u8]>
     ensures { MatchOption result ((inner : List ℕ) → Quoted typed.now inner → ⊥) (λ p. Quoted typed.now p.now) }
 {
-    match typed.strip_prefix(b"\"") {
-        Some(opened) => opened.strip_suffix(b"\""),
-        None => None,
-    }
+    typed.strip_prefix(b"\"")?.strip_suffix(b"\"")
 }
 
 // The bytes that the typed text, without its quotes, stands for.
@@ -70,13 +55,13 @@ fn spelled(heap: Global, typed: &[u8]) -> Result<Option<Vec<u8>>, AllocError>
     ensures { IfOk result (λ o. MatchOption o ((bytes : List ℕ) → Spells typed.now 0 bytes → ⊥) (λ v. Spells typed.now 0 v.items)) }
 {
     let mut bytes = Vec::new(heap);
-    let mut at = 0;
-    while at < typed.len() {
-        let Some((byte, next)) = unit_at(typed, at) else {
+    let mut rest = typed;
+    while !rest.is_empty() {
+        let Some((byte, after)) = unit(rest) else {
             return Ok(None);
         };
         bytes.push(byte)?;
-        at = next;
+        rest = after;
     }
     Ok(Some(bytes))
 }

@@ -6,7 +6,7 @@ use std::fmt;
 use terms::sets::contains;
 
 // A set of roles or of permissions.
-#[derive(Clone, Copy)]
+#[derive(Clone, Copy, PartialEq, Eq, Debug)]
 pub struct Members {
     pub set: u64,
 }
@@ -16,15 +16,12 @@ impl fmt::Display for Members {
 
     fn fmt<W: fmt::Write>(&self, f: &mut fmt::Formatter<W>) -> fmt::Result {
         write!(f, "{{")?;
-        let mut parted = false;
+        // a space, once a member is printed
+        let mut gap = "";
         for member in 0u32..64 {
             if contains(self.set, member) {
-                if parted {
-                    write!(f, " {member}")?;
-                } else {
-                    write!(f, "{member}")?;
-                }
-                parted = true;
+                write!(f, "{gap}{member}")?;
+                gap = " ";
             }
         }
         write!(f, "}}")

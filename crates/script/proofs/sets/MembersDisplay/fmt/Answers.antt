@@ -1,14 +1,11 @@
-use Rattle.std.proofs.Common.{◌+◌, ◌∷◌, ◌++◌, decimal, sym, refl, ap, ◌∙◌, subst, arith}
+use Rattle.std.proofs.Common.{◌+◌, ◌++◌, decimal, sym, refl, ap, ◌∙◌, subst, arith}
 use Rattle.std.specs.Fmt.{HasWritten}
 use Rattle.std.proofs.lemmas.Bool.{both_ways}
 use Rattle.terms.specs.Sets.{In}
 use Rattle.script.specs.Printing.{gap, listed}
-use Rattle.script.proofs.Shown.{none_yet, one_more, no_more, below_in, below_out, whole}
+use Rattle.script.proofs.Shown.{one_more, no_more, below_in, below_out, whole}
 use Rattle.script.proofs.sets.MembersDisplay.fmt.Goals as goal
-use Rattle.script.proofs.sets.MembersDisplay.fmt.Goals.{then-contains+then-parted+in_ok-write-2, then-contains+else-parted+in_ok-write-3, else-contains}
-
-pub loop-member-init : goal.loop-member-init
-loop-member-init g c = ((λ p. none_yet g.W.Write.write_str_gives c.write.new.self p), refl)
+use Rattle.script.proofs.sets.MembersDisplay.fmt.Goals.{then-contains+in_ok-write-2, else-contains}
 
 pub loop-member-preserved : goal.loop-member-preserved
 loop-member-preserved g c =
@@ -18,20 +15,14 @@ loop-member-preserved g c =
     let set = c.args.self.now.set in
     let inv = c.loop-member.invariant in
     elim c.if-contains.branch [
-      | then-contains+then-parted+in_ok-write-2 w ↦
+      | then-contains+in_ok-write-2 w ↦
           let m = c.contains.ensures.yes w.if-contains.true in
-          let part = ap (λ t. gap t ++ decimal i) (sym w.if-parted.true ∙ inv.1) in
-          let put = one_more took f c.loop-member.f w.write-then-parted.new.self i set (32 ∷ decimal i) m part inv.0 (λ p. w.in_ok-write-2.ensures.writes p refl) in
-          ((λ p. subst (λ h. HasWritten took f (listed (i + 1) set) h) (sym w.f-is) (put p)), w.parted-is ∙ sym (below_in i set m))
-      | then-contains+else-parted+in_ok-write-3 w ↦
-          let m = c.contains.ensures.yes w.if-contains.true in
-          let part = ap (λ t. gap t ++ decimal i) (sym w.if-parted.false ∙ inv.1) in
-          let put = one_more took f c.loop-member.f w.write-else-parted.new.self i set (decimal i) m part inv.0 (λ p. w.in_ok-write-3.ensures.writes p refl) in
-          ((λ p. subst (λ h. HasWritten took f (listed (i + 1) set) h) (sym w.f-is) (put p)), w.parted-is ∙ sym (below_in i set m))
+          let put = one_more took f c.loop-member.f w.write-then-contains.new.self i set (c.loop-member.gap.now ++ decimal i) m (ap (λ t. t ++ decimal i) inv.1) inv.0 (λ p. w.in_ok-write-2.ensures.writes p refl) in
+          ((λ p. subst (λ h. HasWritten took f (listed (i + 1) set) h) (sym w.f-is) (put p)), ap (λ r. r.now) w.gap-is ∙ ap gap (sym (below_in i set m)))
       | else-contains w ↦
           let out : In i set → ⊥ = λ m. both_ways c.contains.result w.if-contains.false (c.contains.ensures.no m) in
           let put = no_more took f c.loop-member.f i set out inv.0 in
-          ((λ p. subst (λ h. HasWritten took f (listed (i + 1) set) h) (sym w.f-is) (put p)), w.parted-is ∙ inv.1 ∙ sym (below_out i set out))
+          ((λ p. subst (λ h. HasWritten took f (listed (i + 1) set) h) (sym w.f-is) (put p)), ap (λ r. r.now) w.gap-is ∙ inv.1 ∙ ap gap (sym (below_out i set out)))
     ]
 
 pub returns-clause-writes : goal.returns-clause-writes
