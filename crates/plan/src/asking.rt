@@ -40,8 +40,7 @@ impl Plan {
         ensures { MatchOption result (Satisfies self.now assigned) (λ i. LowestBroken self.now assigned i) }
     {
         let all = self.authorised(assigned);
-        for i in 0..self.constraint_count {
-            let c = self.constraints[i];
+        for (i, c) in self.constraints().iter().enumerate() {
             if (all & c.roles).count_ones() >= c.limit {
                 return Some(i);
             }
@@ -82,47 +81,41 @@ impl Plan {
     pub fn policies(&self) -> &[Policy]
         ensures { result.now ≡ policies_of self.now }
     {
-        &self.policies[..self.policy_count]
+        self.policies.as_slice()
     }
 
     // The constraints, in order.
     pub fn constraints(&self) -> &[Constraint]
         ensures { result.now ≡ constraints_of self.now }
     {
-        &self.constraints[..self.constraint_count]
+        self.constraints.as_slice()
     }
 
     // How many policies there are; they are numbered from 0.
     pub fn policy_count(&self) -> usize
         ensures { result ≡ policy_count self.now }
     {
-        self.policy_count
+        self.policies.len()
     }
 
     // The policy of a number.
     pub fn policy_at(&self, number: usize) -> Option<Policy>
         ensures { result ≡ (if nat_lt number (policy_count self.now) then Some (policy_at self.now number) else None) }
     {
-        if number >= self.policy_count {
-            return None;
-        }
-        Some(self.policies[number])
+        self.policies().get(number).copied()
     }
 
     // How many constraints there are; they are numbered from 0.
     pub fn constraint_count(&self) -> usize
         ensures { result ≡ constraint_count self.now }
     {
-        self.constraint_count
+        self.constraints.len()
     }
 
     // The constraint of a number.
     pub fn constraint_at(&self, number: usize) -> Option<Constraint>
         ensures { result ≡ (if nat_lt number (constraint_count self.now) then Some (constraint_at self.now number) else None) }
     {
-        if number >= self.constraint_count {
-            return None;
-        }
-        Some(self.constraints[number])
+        self.constraints().get(number).copied()
     }
 }

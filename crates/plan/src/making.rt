@@ -3,6 +3,7 @@ ghost use Rattle.plan.specs.History.{Means};
 
 use super::{Constraint, Plan, Policy};
 use terms::sets::RoleSet;
+use terms::short_list::ShortList;
 
 // Each role senior to itself alone.
 fn alone() -> [RoleSet; 64]
@@ -21,17 +22,16 @@ impl Plan {
     pub fn new() -> Plan
         ensures { Means [] result }
     {
-        let juniors = alone();
+        let no_policy = Policy {
+            permissions: 0,
+            least: 0,
+        };
+        let no_constraint = Constraint { roles: 0, limit: 0 };
         Plan {
-            juniors,
+            juniors: alone(),
             grants: [0; 64],
-            policies: [Policy {
-                permissions: 0,
-                least: 0,
-            }; 32],
-            policy_count: 0,
-            constraints: [Constraint { roles: 0, limit: 0 }; 64],
-            constraint_count: 0,
+            policies: ShortList::new(no_policy),
+            constraints: ShortList::new(no_constraint),
         }
     }
 }
