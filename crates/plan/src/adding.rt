@@ -14,7 +14,7 @@ fn raise(rows: &mut [RoleSet; 64], senior: u32, gained: RoleSet)
 {
     for row in rows.iter_mut() {
         if contains(*row, senior) {
-            *row = *row | gained;
+            *row |= gained;
         }
     }
 }
@@ -50,7 +50,7 @@ impl Plan {
             return Err(PlanFault::NoPermission);
         }
         let at = role as usize;
-        self.grants[at] = self.grants[at] | (1u64 << permission);
+        self.grants[at] |= 1 << permission;
         Ok(())
     }
 

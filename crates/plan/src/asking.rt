@@ -9,10 +9,10 @@ use terms::sets::{PermissionSet, RoleSet, contains};
 fn union_of(rows: &[u64; 64], chosen: u64) -> u64
     ensures { result ≡ union rows.now chosen }
 {
-    let mut all: u64 = 0;
-    for i in 0u32..64 {
-        if contains(chosen, i) {
-            all = all | rows[i as usize];
+    let mut all = 0;
+    for (i, row) in rows.iter().enumerate() {
+        if contains(chosen, i as u32) {
+            all |= *row;
         }
     }
     all
@@ -60,10 +60,7 @@ impl Plan {
         ensures value { result ≡ slice_index self.now.juniors role }
         ensures exactly { (b : ℕ) → In b result ↔ Senior self.now role b }
     {
-        if role > 63 {
-            return 0;
-        }
-        self.juniors[role as usize]
+        self.juniors.get(role as usize).copied().unwrap_or(0)
     }
 
     // The permissions granted to a role directly; none for a role above 63.
@@ -71,10 +68,7 @@ impl Plan {
         ensures value { result ≡ slice_index self.now.grants role }
         ensures exactly { (m : ℕ) → In m result ↔ Granted self.now role m }
     {
-        if role > 63 {
-            return 0;
-        }
-        self.grants[role as usize]
+        self.grants.get(role as usize).copied().unwrap_or(0)
     }
 
     // The policies, in order.

@@ -17,14 +17,14 @@ mod making;
 pub mod writing;
 
 // "These permissions take at least `least` people."
-#[derive(Clone, Copy)]
+#[derive(Clone, Copy, PartialEq, Eq, Debug)]
 pub struct Policy {
     pub permissions: PermissionSet,
     pub least: u32,
 }
 
 // "Nobody may be authorised for `limit` of these roles."
-#[derive(Clone, Copy)]
+#[derive(Clone, Copy, PartialEq, Eq, Debug)]
 pub struct Constraint {
     pub roles: RoleSet,
     pub limit: u32,
@@ -69,7 +69,7 @@ pub struct Plan {
 }
 
 // One thing to be added to a plan.
-#[derive(Clone, Copy)]
+#[derive(Clone, Copy, PartialEq, Eq, Debug)]
 pub enum Addition {
     // the first role is made senior to the second
     Senior(u32, u32),
@@ -82,7 +82,7 @@ pub enum Addition {
 }
 
 // An addition, and what it was answered.
-#[derive(Clone, Copy)]
+#[derive(Clone, Copy, PartialEq, Eq, Debug)]
 pub struct Entry {
     pub addition: Addition,
     pub answer: Result<(), PlanFault>,

@@ -2,6 +2,7 @@ ghost use Rattle.std.specs.Prelude.{◌≡◌, ℕ, ◌^◌, ◌<◌, ◌≤◌,
 ghost use Rattle.plan.specs.History.{Means};
 
 use super::{Constraint, Plan, Policy};
+use std::array;
 use terms::sets::RoleSet;
 use terms::short_list::ShortList;
 
@@ -10,11 +11,7 @@ fn alone() -> [RoleSet; 64]
     ensures inside { (a : ℕ) → a < 64 → slice_index result a ≡ 2 ^ a }
     ensures past { (a : ℕ) → 64 ≤ a → slice_index result a ≡ 0 }
 {
-    let mut rows = [0u64; 64];
-    for i in 0usize..64 {
-        rows[i] = 1u64 << i;
-    }
-    rows
+    array::from_fn(|role| 1 << role)
 }
 
 impl Plan {
