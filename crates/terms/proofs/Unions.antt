@@ -1,10 +1,10 @@
 -- The union of rows: what is in it, and how it grows row after row. Assumes nothing.
-use Rattle.std.proofs.Common.{◌≡◌, ℕ, zero, suc, ◌+◌, ◌/◌, ◌%◌, ◌^◌, ◌<◌, ◌≤◌, Bool, true, false, cond, eqb, List, [], ◌∷◌, length, get_or, drop, sym, refl, ap, ◌∙◌, inl, inr, arith, shr-shr}
+use Rattle.std.proofs.Common.{◌≡◌, ℕ, zero, suc, ◌+◌, ◌/◌, ◌%◌, ◌^◌, ◌<◌, ◌≤◌, Bool, true, false, cond, eqb, List, [], ◌∷◌, length, get_or, drop, sym, refl, ap, ◌∙◌, subst, inl, inr, arith, shr-shr}
 use lib.Bits.{bit_or, or_zero_r}
 use Rattle.std.proofs.lemmas.List.{drop_more, drop_all}
 use Rattle.std.proofs.lemmas.Bool.{eq-eqb, ne_eqb, eqb-true}
-use Rattle.terms.specs.Sets.{bit, In, union}
-use Rattle.terms.proofs.Bits.{bit_zero, bit_first, bit_next, in_or, in_or_l, in_or_r, or_assoc}
+use Rattle.terms.specs.Sets.{bit, In, Difference, union}
+use Rattle.terms.proofs.Bits.{bit_zero, bit_first, bit_next, in_or, in_or_l, in_or_r, in_one_only, or_assoc, same_members}
 
 -- what is in a union of rows
 pub union_in : (rows : List ℕ) (w i k : ℕ) → In i w → In k (get_or rows i 0) → In k (union rows w)
@@ -47,3 +47,20 @@ step_out rows w i acc u l h e =
 
 pub at_end : (rows : List ℕ) (w i acc u : ℕ) → length rows ≤ i → bit_or acc (rest rows w i) ≡ u → acc ≡ u
 at_end rows w i acc u l e = sym (or_zero_r acc) ∙ ap (λ xs. bit_or acc (union xs (w / 2 ^ i))) (sym (drop_all i rows l)) ∙ e
+
+-- ---- row by row, by the members of the set
+pub union_next : (rows : List ℕ) (w v k : ℕ) → In k w → Difference w (2 ^ k) v → union rows w ≡ bit_or (get_or rows k 0) (union rows v)
+union_next rows w v k h d =
+    let row = get_or rows k 0 in
+    same_members (union rows w) (bit_or row (union rows v))
+        (λ j i. let u = union_of rows w j i in elim (d.other u.0 u.1) [
+          | inl o ↦ in_or_l row (union rows v) j (subst (λ x. In j (get_or rows x 0)) (in_one_only k u.0 o) u.2)
+          | inr m ↦ in_or_r row (union rows v) j (union_in rows v u.0 j m u.2)
+        ])
+        (λ j i. elim (in_or row (union rows v) j i) [
+          | inl r ↦ union_in rows w k j h r
+          | inr m ↦ let u = union_of rows v j m in union_in rows w u.0 j (d.inside u.0 u.1) u.2
+        ])
+
+pub step_next : (rows : List ℕ) (w v k acc u : ℕ) → In k w → Difference w (2 ^ k) v → bit_or acc (union rows w) ≡ u → bit_or (bit_or acc (get_or rows k 0)) (union rows v) ≡ u
+step_next rows w v k acc u h d e = or_assoc acc (get_or rows k 0) (union rows v) ∙ ap (bit_or acc) (sym (union_next rows w v k h d)) ∙ e
