@@ -1,6 +1,7 @@
 // Why a register refuses a pair.
-ghost use Rattle.std.specs.Prelude.{◌≡◌};
 ghost use Rattle.register.specs.Changes.{shown};
+
+use terms::refusals::Fault;
 
 #[derive(Clone, Copy, PartialEq, Eq, Debug)]
 pub enum RegisterFault {
@@ -12,11 +13,10 @@ pub enum RegisterFault {
     PlacesFull,
 }
 
-impl RegisterFault {
-    // The refusal's number in the table of refusals.
-    pub fn number(&self) -> u32
-        ensures { result ≡ (shown self.now).number }
-    {
+impl Fault for RegisterFault {
+    ghost shown = { shown };
+
+    fn number(&self) -> u32 {
         match self {
             RegisterFault::NoSuchPair => 51,
             RegisterFault::SeatsFull(_) => 52,

@@ -15,12 +15,11 @@ pub struct SeatLayer<R> {
 
 impl<R: Register> SeatLayer<R> {
     // Sets the layer over a register, which is emptied; a seat number above 4,096 counts as 4,096.
-    pub fn new(below: R, own: [u32; 64]) -> SeatLayer<R>
+    pub fn new(mut below: R, own: [u32; 64]) -> SeatLayer<R>
         ensures below { R.Register.model result.below ≡ cleared (R.Register.model below) }
         ensures own { result.own ≡ own }
         ensures kept { R.Register.kept result.below ≡ R.Register.kept below }
     {
-        let mut below = below;
         below.clear();
         SeatLayer { below, own }
     }
@@ -33,18 +32,23 @@ impl<R: Register> SeatLayer<R> {
         below
     }
 
+    // The layer's own seats for a role; a role above 63 has none.
+    fn own_seats(&self, role: u32) -> u32
+        ensures { result ≡ own_seats self.now.own role }
+    {
+        self.own
+            .get(role as usize)
+            .map_or(0, |seats| (*seats).min(4096))
+    }
+
     // Whether the layer's own seats refuse the pair.
     fn turns_away(&self, user: u32, role: u32) -> bool
         ensures { result ≡ turns_away self.now.own (R.Register.model self.now.below) user role }
     {
-        if user >= self.below.users() || role > 63 {
-            return false;
-        }
-        if contains(self.below.row(user), role) {
-            return false;
-        }
-        let own = self.own[role as usize];
-        own.min(4096) <= self.below.members(role)
+        user < self.below.users()
+            && role < 64
+            && !contains(self.below.row(user), role)
+            && self.own_seats(role) <= self.below.members(role)
     }
 }
 
@@ -64,11 +68,7 @@ impl<R: Register> Register for SeatLayer<R> {
     }
 
     fn seats(&self, role: u32) -> u32 {
-        if role > 63 {
-            return 0;
-        }
-        let own = self.own[role as usize];
-        own.min(4096).min(self.below.seats(role))
+        self.own_seats(role).min(self.below.seats(role))
     }
 
     fn pairs(&self) -> u32 {
