@@ -187,36 +187,31 @@ fn number_cases() -> [Case; 8] {
     ]
 }
 
-// What a plan answers to the last of the pairs in seniority.
-fn after(pairs: &[(u32, u32)]) -> u32 {
-    let mut plan = Plan::new();
-    let mut last = Ok(());
-    for (senior, junior) in pairs {
-        last = plan.senior(*senior, *junior);
-    }
-    number_of(&last)
+// What a plan answers to the third of three pairs in seniority.
+fn after(pairs: [(u32, u32); 3]) -> u32 {
+    last_of(&pairs.map(|(senior, junior)| Addition::Senior(senior, junior)))
 }
 
 fn order_cases() -> [Case; 4] {
     [
         Case {
             what: "a cycle of two",
-            answer: after(&[(0, 1), (0, 1), (1, 0)]),
+            answer: after([(0, 1), (0, 1), (1, 0)]),
             expected: 3,
         },
         Case {
             what: "a cycle of three",
-            answer: after(&[(0, 1), (1, 2), (2, 0)]),
+            answer: after([(0, 1), (1, 2), (2, 0)]),
             expected: 3,
         },
         Case {
             what: "a pair that follows already",
-            answer: after(&[(0, 1), (1, 2), (0, 2)]),
+            answer: after([(0, 1), (1, 2), (0, 2)]),
             expected: 0,
         },
         Case {
             what: "a pair named twice",
-            answer: after(&[(0, 1), (1, 2), (0, 1)]),
+            answer: after([(0, 1), (1, 2), (0, 1)]),
             expected: 0,
         },
     ]
@@ -233,17 +228,18 @@ fn asked(addition: Addition) -> Entry {
 // Eight permissions take eight people, role 0 has two of them, and nobody may have two roles.
 fn seven_users() -> [Entry; 10] {
     [
-        asked(Addition::Grant(0, 0)),
-        asked(Addition::Grant(0, 1)),
-        asked(Addition::Grant(1, 2)),
-        asked(Addition::Grant(2, 3)),
-        asked(Addition::Grant(3, 4)),
-        asked(Addition::Grant(4, 5)),
-        asked(Addition::Grant(5, 6)),
-        asked(Addition::Grant(6, 7)),
-        asked(Addition::Policy(0xff, 8)),
-        asked(Addition::Constraint(0x7f, 2)),
+        Addition::Grant(0, 0),
+        Addition::Grant(0, 1),
+        Addition::Grant(1, 2),
+        Addition::Grant(2, 3),
+        Addition::Grant(3, 4),
+        Addition::Grant(4, 5),
+        Addition::Grant(5, 6),
+        Addition::Grant(6, 7),
+        Addition::Policy(0xff, 8),
+        Addition::Constraint(0x7f, 2),
     ]
+    .map(asked)
 }
 
 // A count as the number of an answer.

@@ -8,7 +8,7 @@ use model::Model;
 use register::Register;
 use register::seats::SeatLayer;
 use std::alloc::{AllocError, Global};
-use std::io;
+use std::{array, io};
 use tally::Tally;
 use trial::{compare, note_rows, note_spare};
 
@@ -21,16 +21,12 @@ const CALLS: u32 = 1000;
 
 // The seat numbers of a layer: few for some roles, many for others, some above 4,096.
 fn seats(random: &mut Generator) -> [u32; 64] {
-    let mut own = [0u32; 64];
-    for seat in own.iter_mut() {
-        *seat = match random.below(4) {
-            0 => random.below(3),
-            1 => random.below(40),
-            2 => 4096,
-            _ => 5000,
-        };
-    }
-    own
+    array::from_fn(|_| match random.below(4) {
+        0 => random.below(3),
+        1 => random.below(40),
+        2 => 4096,
+        _ => 5000,
+    })
 }
 
 // A table of words with any content.
@@ -44,12 +40,7 @@ fn spare(heap: Global, table: &[u64]) -> Result<Vec<u64>, AllocError> {
     table.iter().skip(4096).copied().collect(heap)
 }
 
-// The calls of a run, on a register as it is.
-fn bare<R: Register>(register: &mut R, model: &mut Model, random: &mut Generator) -> Tally {
-    compare(register, model, random, CALLS)
-}
-
-// On a register under one layer of seats, which empties it.
+// The calls of a run on a register under one layer of seats, which empties it.
 fn under_one<R: Register>(register: &mut R, model: &mut Model, random: &mut Generator) -> Tally {
     let own = seats(random);
     model.clear();
@@ -60,7 +51,7 @@ fn under_one<R: Register>(register: &mut R, model: &mut Model, random: &mut Gene
     tally
 }
 
-// On a register under two.
+// The same under two layers.
 fn under_two<R: Register>(register: &mut R, model: &mut Model, random: &mut Generator) -> Tally {
     let (lower, upper) = (seats(random), seats(random));
     model.clear();
@@ -73,7 +64,7 @@ fn under_two<R: Register>(register: &mut R, model: &mut Model, random: &mut Gene
 }
 
 // Bit rows of so many words: the calls of a run, and then the table itself beside the model.
-fn rows<F>(
+fn over_rows<F>(
     heap: Global,
     words: usize,
     random: &mut Generator,
@@ -115,11 +106,11 @@ fn main(rt: HostRuntime) -> io::Result<()> {
     let heap = rt.alloc();
     let mut random = Generator::new(20261118);
     for words in [0usize, 1, 63, 4096, 5000] {
-        let plain = rows(heap, words, &mut random, |r, m, g| bare(r, m, g))?;
+        let plain = over_rows(heap, words, &mut random, |r, m, g| compare(r, m, g, CALLS))?;
         report(&rt, "bit rows", words, &plain)?;
-        let one = rows(heap, words, &mut random, |r, m, g| under_one(r, m, g))?;
+        let one = over_rows(heap, words, &mut random, under_one)?;
         report(&rt, "one layer of seats", words, &one)?;
-        let two = rows(heap, words, &mut random, |r, m, g| under_two(r, m, g))?;
+        let two = over_rows(heap, words, &mut random, under_two)?;
         report(&rt, "two layers of seats", words, &two)?;
     }
     for users in [0usize, 1, 5, 70] {
