@@ -1,3 +1,4 @@
 pub mod Words
+pub mod Made
 pub mod Counting
 pub mod Keeping

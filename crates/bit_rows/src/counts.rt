@@ -1,62 +1,78 @@
-// Counting the pairs and the members in rows, when a register is made, and counting a row off again.
-ghost use Rattle.std.specs.Prelude.{◌≡◌, ℕ, ◌+◌, ◌*◌, ◌^◌, ◌<◌, ◌≤◌, length, slice_index};
-ghost use Rattle.register.specs.Pairs.{row, pairs, having};
+// The rows in a table of words, and counting the pairs and the members in them, when a register is made.
+ghost use Rattle.std.specs.Prelude.{◌≡◌, ℕ, ◌*◌, ◌^◌, ◌<◌, ◌≤◌, ◌&&◌, ◌==◌, length, nat_lt, slice_index};
+ghost use Rattle.register.specs.Pairs.{row, pairs, members};
 ghost use Rattle.terms.specs.Sets.{bit};
 ghost use Rattle.bit_rows.specs.Table.{rows_of};
 
-// The words of a table that are rows.
-pub(crate) fn rows_of(table: &[u64]) -> &[u64]
-    ensures { result.now ≡ rows_of table.now }
-{
-    &table[..table.len().min(4096)]
+use std::array;
+use terms::sets::contains;
+
+// The words of a table that are rows, one for a user.
+#[derive(Drop)]
+pub(crate) struct Rows<'a> {
+    words: &'a [u64],
+    ghost few: { length words.now ≤ 4096 },
+    ghost wide: { (u : ℕ) → row words.now u < 2 ^ 64 },
 }
 
-// The number of pairs.
-pub(crate) fn count_pairs(rows: &[u64]) -> u32
-    requires { length rows.now ≤ 4096 }
-    ensures count { result ≡ pairs rows.now }
-    ensures most { result ≤ 64 * length rows.now }
-    ensures wide { (u : ℕ) → row rows.now u < 2 ^ 64 }
-{
-    let mut pairs = 0;
-    for word in rows {
-        pairs += word.count_ones();
+impl<'a> Rows<'a> {
+    pub(crate) fn of(table: &'a [u64]) -> Rows<'a>
+        ensures { result.words.now ≡ rows_of table.now }
+    {
+        Rows {
+            words: &table[..table.len().min(4096)],
+        }
     }
-    pairs
+
+    // The number of users.
+    pub(crate) fn users(&self) -> u32
+        ensures { result ≡ length self.now.words.now }
+    {
+        self.words.len() as u32
+    }
+
+    // The number of places, one for each user and role.
+    pub(crate) fn places(&self) -> u32
+        ensures { result ≡ 64 * length self.now.words.now }
+    {
+        64 * self.users()
+    }
+
+    // The roles of a user, who has none where there is no row for him.
+    pub(crate) fn row(&self, user: u32) -> u64
+        ensures { result ≡ row self.now.words.now user }
+    {
+        self.words.get(user as usize).copied().unwrap_or(0)
+    }
+
+    // The number of pairs.
+    pub(crate) fn pairs(&self) -> u32
+        ensures { result ≡ pairs self.now.words.now }
+    {
+        self.words.iter().map(|row| row.count_ones()).sum()
+    }
+
+    // The number of a role's members; a role above 63 has none.
+    pub(crate) fn members(&self, role: u32) -> u32
+        ensures { result ≡ members self.now.words.now role }
+    {
+        self.words
+            .iter()
+            .filter(|row| has_role(**row, role))
+            .count() as u32
+    }
+
+    // The number of members of each role.
+    pub(crate) fn each_role(&self) -> [u32; 64]
+        ensures { (k : ℕ) → k < 64 → slice_index result k ≡ members self.now.words.now k }
+    {
+        array::from_fn(|role| self.members(role as u32))
+    }
 }
 
-// The number of members of one role.
-pub(crate) fn count_members(rows: &[u64], role: u32) -> u32
-    requires { (length rows.now ≤ 4096) × (role < 64) }
-    ensures { result ≡ having role rows.now }
+// Whether a row has the role.
+fn has_role(row: u64, role: u32) -> bool
+    ensures { result ≡ (nat_lt role 64 && (bit row role == 1)) }
 {
-    let mut members = 0;
-    for word in rows {
-        members += ((*word >> role) & 1) as u32;
-    }
-    members
-}
-
-// The number of members of each role.
-pub(crate) fn count_each_role(rows: &[u64]) -> [u32; 64]
-    requires { length rows.now ≤ 4096 }
-    ensures { (k : ℕ) → k < 64 → slice_index result k ≡ having k rows.now }
-{
-    let mut members = [0; 64];
-    for role in 0..64 {
-        members[role] = count_members(rows, role as u32);
-    }
-    members
-}
-
-// The numbers of members without those of one row, which are counted in them.
-pub(crate) fn without_row(members: [u32; 64], row: u64) -> [u32; 64]
-    requires { (k : ℕ) → k < 64 → bit row k ≤ slice_index members k }
-    ensures { (k : ℕ) → k < 64 → slice_index result k + bit row k ≡ slice_index members k }
-{
-    let mut left = members;
-    for role in 0..64 {
-        left[role] -= ((row >> role) & 1) as u32;
-    }
-    left
+    contains(row, role)
 }

@@ -1,13 +1,13 @@
 // Bit rows: a register in a lent table of words, one 64-bit word for a user, the first 4,096 words at most.
 #![tactic(auto)]
 
-ghost use Rattle.std.specs.Prelude.{◌≡◌, ℕ, ◌*◌, ◌^◌, ◌<◌, ◌≤◌, [], ◌∷◌, length, drop, slice_index, slice_set};
+ghost use Rattle.std.specs.Prelude.{◌≡◌, ℕ, ◌^◌, ◌<◌, [], ◌∷◌, MatchOption, drop, slice_index};
 ghost use Rattle.register.specs.Pairs.{row as row_at, pairs as pair_count, having};
-ghost use Rattle.bit_rows.specs.Table.{rows_of, model_of};
+ghost use Rattle.bit_rows.specs.Table.{rows_of, model_of, Inside, Outside, wide_sound};
 
 mod counts;
 
-use crate::counts::{count_each_role, count_pairs, rows_of, without_row};
+use crate::counts::Rows;
 use register::{Register, RegisterFault};
 use terms::sets::{contains, with_member};
 
@@ -19,9 +19,7 @@ pub struct BitRows<'a> {
     members: [u32; 64],
     ghost counted: { pairs ≡ pair_count (rows_of words.now) },
     ghost each: { (r : ℕ) → r < 64 → slice_index members r ≡ having r (rows_of words.now) },
-    ghost few: { length (rows_of words.now) ≤ 4096 },
     ghost wide: { (u : ℕ) → row_at (rows_of words.now) u < 2 ^ 64 },
-    ghost within: { pair_count (rows_of words.now) ≤ 64 * length (rows_of words.now) },
 }
 
 impl<'a> BitRows<'a> {
@@ -30,9 +28,9 @@ impl<'a> BitRows<'a> {
         ensures words { result.words.now ≡ table.old }
         ensures lent { result.words.ghost_name ≡ table.entry.ghost_name }
     {
-        let rows = rows_of(table);
-        let pairs = count_pairs(rows);
-        let members = count_each_role(rows);
+        let rows = Rows::of(table);
+        let pairs = rows.pairs();
+        let members = rows.each_role();
         BitRows {
             words: table,
             pairs,
@@ -40,17 +38,23 @@ impl<'a> BitRows<'a> {
         }
     }
 
-    // Takes all pairs of one user out, and counts them off, so that the counts are right between two rows too.
-    fn empty_row(&mut self, user: usize)
-        requires { user < length (rows_of self.old.words.now) }
-        ensures words { self.new.words.now ≡ slice_set self.old.words.now user 0 }
-        ensures lent { self.new.words.ghost_name ≡ self.old.words.ghost_name }
+    // The rows in use.
+    fn rows(&self) -> Rows<'_>
+        ensures { result.words.now ≡ rows_of self.now.words.now }
     {
-        let row = self.words[user];
-        let members = without_row(self.members, row);
-        self.words[user] = 0;
-        self.members = members;
-        self.pairs -= row.count_ones();
+        Rows::of(self.words)
+    }
+
+    // The user's row, where there may be a pair of him and the role.
+    fn row_for(&self, user: u32, role: u32) -> Option<u64>
+        ensures { MatchOption result (Outside self.now.words.now user role) (λ row. Inside self.now.words.now user role row) }
+    {
+        let rows = self.rows();
+        if user < rows.users() && role < 64 {
+            Some(rows.row(user))
+        } else {
+            None
+        }
     }
 }
 
@@ -59,14 +63,14 @@ impl<'a> Register for BitRows<'a> {
 
     ghost kept = { λ s. record { spare = drop 4096 s.words.now; lenders = s.words.ghost_name ∷ [] } };
 
-    ghost sound = { λ s. record { few = s.few; wide = s.wide; within = s.within } };
+    ghost sound = { λ s. wide_sound s.words.now s.wide };
 
     fn users(&self) -> u32 {
-        self.words.len().min(4096) as u32
+        self.rows().users()
     }
 
     fn places(&self) -> u32 {
-        64 * <BitRows<'_> as Register>::users(self)
+        self.rows().places()
     }
 
     fn seats(&self, role: u32) -> u32 {
@@ -78,47 +82,37 @@ impl<'a> Register for BitRows<'a> {
     }
 
     fn members(&self, role: u32) -> u32 {
-        if role < 64 {
-            self.members[role as usize]
-        } else {
-            0
-        }
+        self.members.get(role as usize).copied().unwrap_or(0)
     }
 
     fn row(&self, user: u32) -> u64 {
-        if user < <BitRows<'_> as Register>::users(self) {
-            self.words[user as usize]
-        } else {
-            0
-        }
+        self.rows().row(user)
     }
 
+    // Each register tests for itself: an impl of `Register` that calls a function generic in it is a cycle to the check.
     fn add(&mut self, user: u32, role: u32) -> Result<(), RegisterFault> {
-        if user >= <BitRows<'_> as Register>::users(self) || role > 63 {
+        let Some(row) = self.row_for(user, role) else {
             return Err(RegisterFault::NoSuchPair);
-        }
-        let row = self.words[user as usize];
+        };
         if contains(row, role) {
             return Ok(());
         }
-        let members = self.members[role as usize];
-        if members >= 4096 {
+        if self.members[role as usize] >= 4096 {
             return Err(RegisterFault::SeatsFull(role));
         }
-        if self.pairs >= <BitRows<'_> as Register>::places(self) {
+        if self.pairs >= self.rows().places() {
             return Err(RegisterFault::PlacesFull);
         }
         self.words[user as usize] = with_member(row, role);
-        self.members[role as usize] = members + 1;
+        self.members[role as usize] += 1;
         self.pairs += 1;
         Ok(())
     }
 
     fn remove(&mut self, user: u32, role: u32) -> bool {
-        if user >= <BitRows<'_> as Register>::users(self) || role > 63 {
+        let Some(row) = self.row_for(user, role) else {
             return false;
-        }
-        let row = self.words[user as usize];
+        };
         if !contains(row, role) {
             return false;
         }
@@ -129,8 +123,9 @@ impl<'a> Register for BitRows<'a> {
     }
 
     fn clear(&mut self) {
-        for user in 0..self.words.len().min(4096) {
-            self.empty_row(user);
-        }
+        let users = self.words.len().min(4096);
+        self.words[..users].fill(0);
+        self.members = [0; 64];
+        self.pairs = 0;
     }
 }

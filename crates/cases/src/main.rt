@@ -3,13 +3,15 @@
 
 use commission::commission;
 use judge::{JudgedPlan, Witness};
-use plan::{Addition, Entry, Plan, PlanFault};
+use plan::{Addition, Entry, Plan};
 use std::io;
-use terms::refusals::Fault;
+use tally::Tally;
+use terms::refusals::number_of;
 
 mod starred;
 
-// One case: what is asked, the number that the service answers (0 where it accepts), and the number that is expected.
+// One case: what is asked, the number that the service answers (0 where it accepts), and the number that is expected: those of
+// the refusal table, which is why they are numbers here.
 #[derive(Drop)]
 struct Case {
     what: &'static str,
@@ -17,52 +19,37 @@ struct Case {
     expected: u32,
 }
 
-// How many cases came out as expected.
-#[derive(Drop)]
-struct Tally {
-    right: u32,
-    wrong: u32,
-}
-
-impl Tally {
-    // Prints a case and counts it.
-    fn note(&mut self, rt: &HostRuntime, case: &Case) -> io::Result<()> {
+impl Case {
+    // Prints the case and counts it.
+    fn note(&self, rt: &HostRuntime, tally: &mut Tally) -> io::Result<()> {
         let Case {
             what,
             answer,
             expected,
-        } = case;
-        if answer == expected {
-            self.right = self.right.saturating_add(1);
+        } = self;
+        let same = answer == expected;
+        tally.note(same);
+        if same {
             println!(rt; "{what}: {answer}")
         } else {
-            self.wrong = self.wrong.saturating_add(1);
             println!(rt; "{what}: {answer}, WRONG, expected {expected}")
         }
     }
 }
 
-// The number of an answer.
-fn number(answer: Result<(), PlanFault>) -> u32 {
-    match answer {
-        Ok(()) => 0,
-        Err(fault) => fault.number(),
+// What a plan answers to the last of the additions.
+fn last_of(additions: &[Addition]) -> u32 {
+    let mut plan = Plan::new();
+    let mut last = Ok(());
+    for addition in additions {
+        last = plan.add(*addition);
     }
+    number_of(&last)
 }
 
 // What an empty plan answers to one addition.
 fn alone(addition: Addition) -> u32 {
-    number(Plan::new().add(addition))
-}
-
-// What a plan answers to the last of so many equal additions.
-fn last_of(count: u32, addition: Addition) -> u32 {
-    let mut plan = Plan::new();
-    let mut last = 0;
-    for _ in 0..count {
-        last = number(plan.add(addition));
-    }
-    last
+    last_of(&[addition])
 }
 
 fn policy_cases() -> [Case; 8] {
@@ -99,12 +86,12 @@ fn policy_cases() -> [Case; 8] {
         },
         Case {
             what: "policy 32, the 33rd",
-            answer: last_of(33, Addition::Policy(3, 2)),
+            answer: last_of(&[Addition::Policy(3, 2); 33]),
             expected: 6,
         },
         Case {
             what: "policy 31, the 32nd",
-            answer: last_of(32, Addition::Policy(3, 2)),
+            answer: last_of(&[Addition::Policy(3, 2); 32]),
             expected: 0,
         },
     ]
@@ -144,12 +131,12 @@ fn constraint_cases() -> [Case; 8] {
         },
         Case {
             what: "constraint 63, the 64th",
-            answer: last_of(64, Addition::Constraint(3, 2)),
+            answer: last_of(&[Addition::Constraint(3, 2); 64]),
             expected: 0,
         },
         Case {
             what: "constraint 64, the 65th",
-            answer: last_of(65, Addition::Constraint(3, 2)),
+            answer: last_of(&[Addition::Constraint(3, 2); 65]),
             expected: 6,
         },
     ]
@@ -201,33 +188,30 @@ fn number_cases() -> [Case; 8] {
 }
 
 // What a plan answers to the third of three pairs in seniority.
-fn after(first: (u32, u32), second: (u32, u32), third: (u32, u32)) -> u32 {
-    let mut plan = Plan::new();
-    let _ = plan.senior(first.0, first.1);
-    let _ = plan.senior(second.0, second.1);
-    number(plan.senior(third.0, third.1))
+fn after(pairs: [(u32, u32); 3]) -> u32 {
+    last_of(&pairs.map(|(senior, junior)| Addition::Senior(senior, junior)))
 }
 
 fn order_cases() -> [Case; 4] {
     [
         Case {
             what: "a cycle of two",
-            answer: after((0, 1), (0, 1), (1, 0)),
+            answer: after([(0, 1), (0, 1), (1, 0)]),
             expected: 3,
         },
         Case {
             what: "a cycle of three",
-            answer: after((0, 1), (1, 2), (2, 0)),
+            answer: after([(0, 1), (1, 2), (2, 0)]),
             expected: 3,
         },
         Case {
             what: "a pair that follows already",
-            answer: after((0, 1), (1, 2), (0, 2)),
+            answer: after([(0, 1), (1, 2), (0, 2)]),
             expected: 0,
         },
         Case {
             what: "a pair named twice",
-            answer: after((0, 1), (1, 2), (0, 1)),
+            answer: after([(0, 1), (1, 2), (0, 1)]),
             expected: 0,
         },
     ]
@@ -244,17 +228,23 @@ fn asked(addition: Addition) -> Entry {
 // Eight permissions take eight people, role 0 has two of them, and nobody may have two roles.
 fn seven_users() -> [Entry; 10] {
     [
-        asked(Addition::Grant(0, 0)),
-        asked(Addition::Grant(0, 1)),
-        asked(Addition::Grant(1, 2)),
-        asked(Addition::Grant(2, 3)),
-        asked(Addition::Grant(3, 4)),
-        asked(Addition::Grant(4, 5)),
-        asked(Addition::Grant(5, 6)),
-        asked(Addition::Grant(6, 7)),
-        asked(Addition::Policy(0xff, 8)),
-        asked(Addition::Constraint(0x7f, 2)),
+        Addition::Grant(0, 0),
+        Addition::Grant(0, 1),
+        Addition::Grant(1, 2),
+        Addition::Grant(2, 3),
+        Addition::Grant(3, 4),
+        Addition::Grant(4, 5),
+        Addition::Grant(5, 6),
+        Addition::Grant(6, 7),
+        Addition::Policy(0xff, 8),
+        Addition::Constraint(0x7f, 2),
     ]
+    .map(asked)
+}
+
+// A count as the number of an answer.
+fn counted(count: usize) -> u32 {
+    u32::try_from(count).unwrap_or(u32::MAX)
 }
 
 // What judging answers, or the number of users of its witness.
@@ -263,31 +253,20 @@ fn witness_cases() -> [Case; 3] {
     let mut place = JudgedPlan::new();
     let mut witness = Witness::new();
     let judgement = commission(&mut log, &mut place, &mut witness);
-    let answer = match judgement.answer {
-        Ok(()) => 0,
-        Err(fault) => fault.number(),
-    };
-    let users = if witness.users < 100 {
-        witness.users as u32
-    } else {
-        100
-    };
-    let policies = place.plan().policy_count();
-    let kept = if policies < 100 { policies as u32 } else { 100 };
     [
         Case {
             what: "a plan that seven users break",
-            answer,
+            answer: number_of(&judgement.answer),
             expected: 7,
         },
         Case {
             what: "users of its witness",
-            answer: users,
+            answer: counted(witness.users),
             expected: 7,
         },
         Case {
             what: "policies in the place after it",
-            answer: kept,
+            answer: counted(place.plan().policy_count()),
             expected: 0,
         },
     ]
@@ -295,22 +274,15 @@ fn witness_cases() -> [Case; 3] {
 
 fn main(rt: HostRuntime) -> io::Result<()> {
     let _ = starred::starred_cases_hold();
-    let mut tally = Tally { right: 0, wrong: 0 };
-    for case in policy_cases().iter() {
-        tally.note(&rt, case)?;
+    let mut tally = Tally::new();
+    let (policies, constraints, numbers) = (policy_cases(), constraint_cases(), number_cases());
+    let (orders, witnesses) = (order_cases(), witness_cases());
+    let all = policies
+        .iter()
+        .chain(constraints.iter())
+        .chain(numbers.iter());
+    for case in all.chain(orders.iter()).chain(witnesses.iter()) {
+        case.note(&rt, &mut tally)?;
     }
-    for case in constraint_cases().iter() {
-        tally.note(&rt, case)?;
-    }
-    for case in number_cases().iter() {
-        tally.note(&rt, case)?;
-    }
-    for case in order_cases().iter() {
-        tally.note(&rt, case)?;
-    }
-    for case in witness_cases().iter() {
-        tally.note(&rt, case)?;
-    }
-    let Tally { right, wrong } = tally;
-    println!(rt; "{right} right, {wrong} wrong")
+    println!(rt; "{tally}")
 }

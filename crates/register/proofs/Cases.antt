@@ -1,7 +1,7 @@
 -- Which row of add applies, what add and remove leave in each case, and nothing else of the definitions. Assumes nothing.
-use Rattle.std.proofs.Common.{◌≡◌, ℕ, ◌<◌, ◌≤◌, Bool, true, false, cond, not, ltb, leb, ◌⊎◌, List, [], ◌∷◌, Some, None, Option, refl, ap, ◌∙◌, inl, inr}
+use Rattle.std.proofs.Common.{◌≡◌, ℕ, ◌<◌, ◌≤◌, Bool, true, false, cond, not, ltb, leb, ◌⊎◌, List, [], ◌∷◌, Some, None, Option, sym, refl, ap, ◌∙◌, subst, inl, inr}
 use Rattle.std.proofs.lemmas.Bool.{cases_lt, cases_eq, lt-ltb, le-ltb, le-leb, lt-leb, eq-eqb, ne_eqb, both_ways, and_from, and_left, and_right}
-use Rattle.terms.specs.Sets.{bit}
+use Rattle.terms.specs.Sets.{bit, In}
 use Rattle.terms.specs.Refusals.{Refusal, refusal, when, first_of}
 use Rattle.register.specs.Pairs.{row, Has, pairs, having, members, with_pair, less_pair}
 use Rattle.register.specs.Model.{Model, users_of, seats_of, with_rows, inside, holds}
@@ -27,6 +27,13 @@ members_high t r h = ap (λ b. cond b (having r t) 0) (le-ltb r 64 h)
 pub seats_low : (m : Model) (r : ℕ) → r < 64 → seats_of m r ≡ m.seats r
 seats_low m r h = ap (λ b. cond b (m.seats r) 0) (lt-ltb r 64 h)
 
+-- ---- what reading a word says of the pair
+pub read_held : (t : List ℕ) (u r w : ℕ) (b : Bool) → w ≡ row t u → (b ≡ true → In r w) → b ≡ true → Has t u r
+read_held t u r w b e told on = subst (In r) e (told on)
+
+pub read_free : (t : List ℕ) (u r w : ℕ) (b : Bool) → w ≡ row t u → (In r w → b ≡ true) → b ≡ false → Has t u r → ⊥
+read_free t u r w b e told off h = both_ways b off (told (subst (In r) (sym e) h))
+
 module _ (m : Model) (u r : ℕ) where
   -- ---- the pair is held, or not
   pub held_true : u < users_of m → r < 64 → Has m.rows u r → holds m u r ≡ true
@@ -47,9 +54,6 @@ module _ (m : Model) (u r : ℕ) where
 
   pub held_outside : (users_of m ≤ u) ⊎ (64 ≤ r) → holds m u r ≡ false
   held_outside h = and_left (inside m u r) _ (not_inside h)
-
-  pub held_free : u < users_of m → r < 64 → holds m u r ≡ false → Has m.rows u r → ⊥
-  held_free low small f h = both_ways (holds m u r) f (held_true low small h)
 
   -- ---- add
   by_rows : holds m u r ≡ false → (o : Option Refusal) → new_pair_rows m u r ≡ o → Adds m u r o (unless o m (with_rows m (with_pair m.rows u r)))

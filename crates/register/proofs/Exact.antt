@@ -3,7 +3,7 @@ use Rattle.std.proofs.Common.{◌≡◌, ℕ, ◌^◌, ◌<◌, ◌≤◌, Bool,
 use lib.Bits.{bit_or, bit_xor, or_lt, xor_lt}
 use Rattle.std.proofs.lemmas.Nat.{pow_pos, pow_below}
 use Rattle.std.proofs.lemmas.List.{length-set, length-replicate}
-use Rattle.std.proofs.lemmas.Bool.{cases_eq, cases_lt, ltb-true, eqb-true, both_ways, and_parts}
+use Rattle.std.proofs.lemmas.Bool.{cases_eq, cases_lt, ltb-true, eqb-true, and_parts}
 use Rattle.terms.specs.Sets.{bit, In}
 use Rattle.terms.specs.Refusals.{Refusal, refusal}
 use Rattle.terms.proofs.Bits.{bit_high, none_in}
@@ -30,14 +30,6 @@ held_has m u r h =
     let a = and_parts (inside m u r) (has m.rows u r) h in
     let b = and_parts (ltb u (users_of m)) (ltb r 64) a.0 in
     (ltb-true u (users_of m) b.0, ltb-true r 64 b.1, eqb-true (bit (row m.rows u) r) 1 a.1)
-
--- reading the row is reading the pair
-pub holds_is : (m : Model) → Sound m → (u r w : ℕ) (b : Bool) → w ≡ row m.rows u → (b ≡ true → In r w) → (In r w → b ≡ true) → b ≡ holds m u r
-holds_is m s u r w true e reads found =
-    let h : Has m.rows u r = subst (In r) e (reads refl) in
-    let i = has_inside m s u r h in
-    sym (c.held_true m u r i.0 i.1 h)
-holds_is m s u r w false e reads found = sym (c.held_false m u r (λ h. both_ways false refl (found (subst (In r) (sym e) h))))
 
 -- ---- what lasts
 same_lasts : (m : Model) → Sound m → Lasts m m

@@ -11,7 +11,6 @@ ghost use Rattle.register.specs.Changes.{shown, add_rows, added, removed, cleare
 pub mod fault;
 pub mod laws;
 pub mod lent;
-pub mod pairs;
 pub mod seats;
 
 pub use crate::fault::RegisterFault;

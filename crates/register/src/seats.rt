@@ -3,8 +3,8 @@ ghost use Rattle.std.specs.Prelude.{◌≡◌};
 ghost use Rattle.register.specs.Changes.{cleared};
 ghost use Rattle.register.specs.Layer.{own_seats, seated, seated_sound, turns_away};
 
-use crate::pairs::holds;
 use crate::{Register, RegisterFault};
+use terms::sets::contains;
 
 // Users, places and pairs are those of the register below.
 #[derive(Drop)]
@@ -47,7 +47,7 @@ impl<R: Register> SeatLayer<R> {
     {
         user < self.below.users()
             && role < 64
-            && !holds(&self.below, user, role)
+            && !contains(self.below.row(user), role)
             && self.own_seats(role) <= self.below.members(role)
     }
 }

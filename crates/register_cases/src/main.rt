@@ -8,8 +8,9 @@ use model::Model;
 use register::Register;
 use register::seats::SeatLayer;
 use std::alloc::{AllocError, Global};
-use std::io;
-use trial::{Tally, compare};
+use std::{array, io};
+use tally::Tally;
+use trial::{compare, note_rows, note_spare};
 
 mod generator;
 mod model;
@@ -20,51 +21,26 @@ const CALLS: u32 = 1000;
 
 // The seat numbers of a layer: few for some roles, many for others, some above 4,096.
 fn seats(random: &mut Generator) -> [u32; 64] {
-    let mut own = [0u32; 64];
-    for seat in own.iter_mut() {
-        *seat = match random.below(4) {
-            0 => random.below(3),
-            1 => random.below(40),
-            2 => 4096,
-            _ => 5000,
-        };
-    }
-    own
+    array::from_fn(|_| match random.below(4) {
+        0 => random.below(3),
+        1 => random.below(40),
+        2 => 4096,
+        _ => 5000,
+    })
 }
 
 // A table of words with any content.
 fn table(heap: Global, words: usize, random: &mut Generator) -> Result<Vec<u64>, AllocError> {
-    let mut table = Vec::new(heap);
-    for _ in 0..words {
-        let row = random.next() & random.next() & random.next();
-        table.push(row)?;
-    }
-    Ok(table)
+    let content = (0..words).map(|_| random.next() & random.next() & random.next());
+    content.collect(heap)
 }
 
 // The words of the table that are no register's.
 fn spare(heap: Global, table: &[u64]) -> Result<Vec<u64>, AllocError> {
-    let mut words = Vec::new(heap);
-    for word in table.iter().skip(4096) {
-        words.push(*word)?;
-    }
-    Ok(words)
+    table.iter().skip(4096).copied().collect(heap)
 }
 
-// Bit rows of so many words, bare.
-fn bare(heap: Global, words: usize, random: &mut Generator) -> Result<Tally, AllocError> {
-    let mut table = table(heap, words, random)?;
-    let before = spare(heap, table.as_slice())?;
-    let mut model = Model::of_rows(heap, table.as_slice())?;
-    let mut rows = BitRows::new(table.as_mut_slice());
-    let mut tally = compare(&mut rows, &mut model, random, CALLS);
-    drop(rows);
-    tally.table(&model, table.as_slice());
-    tally.spare(before.as_slice(), table.as_slice());
-    Ok(tally)
-}
-
-// A register under one layer of seats, which empties it.
+// The calls of a run on a register under one layer of seats, which empties it.
 fn under_one<R: Register>(register: &mut R, model: &mut Model, random: &mut Generator) -> Tally {
     let own = seats(random);
     model.clear();
@@ -75,7 +51,7 @@ fn under_one<R: Register>(register: &mut R, model: &mut Model, random: &mut Gene
     tally
 }
 
-// A register under two.
+// The same under two layers.
 fn under_two<R: Register>(register: &mut R, model: &mut Model, random: &mut Generator) -> Tally {
     let (lower, upper) = (seats(random), seats(random));
     model.clear();
@@ -87,36 +63,32 @@ fn under_two<R: Register>(register: &mut R, model: &mut Model, random: &mut Gene
     tally
 }
 
-// Bit rows of so many words under one layer of seats, or under two.
-fn seated(
+// Bit rows of so many words: the calls of a run, and then the table itself beside the model.
+fn over_rows<F>(
     heap: Global,
     words: usize,
-    layers: u32,
     random: &mut Generator,
-) -> Result<Tally, AllocError> {
+    calls: F,
+) -> Result<Tally, AllocError>
+where
+    F: FnOnce(&mut BitRows, &mut Model, &mut Generator) -> Tally,
+    requires { F.IsAlwaysCallable calls }
+{
     let mut table = table(heap, words, random)?;
     let before = spare(heap, table.as_slice())?;
     let mut model = Model::of_rows(heap, table.as_slice())?;
     let mut rows = BitRows::new(table.as_mut_slice());
-    let mut tally = if layers == 1 {
-        under_one(&mut rows, &mut model, random)
-    } else {
-        under_two(&mut rows, &mut model, random)
-    };
+    let mut tally = calls(&mut rows, &mut model, random);
     drop(rows);
-    tally.table(&model, table.as_slice());
-    tally.spare(before.as_slice(), table.as_slice());
+    note_rows(&mut tally, &model, table.as_slice());
+    note_spare(&mut tally, before.as_slice(), table.as_slice());
     Ok(tally)
 }
 
 // The integrator's register, with a flag for each of so many users and the 64 roles.
 fn flags(heap: Global, users: usize, random: &mut Generator) -> Result<Tally, AllocError> {
     let mut flags = Vec::new(heap);
-    for _ in 0..users {
-        for _ in 0..64 {
-            flags.push(false)?;
-        }
-    }
+    flags.resize(users.saturating_mul(64), false)?;
     let seats = random.below(6);
     let mut model = Model::empty(heap, users)?;
     model.limit(&[seats; 64]);
@@ -127,27 +99,19 @@ fn flags(heap: Global, users: usize, random: &mut Generator) -> Result<Tally, Al
 }
 
 fn report(rt: &HostRuntime, name: &str, users: usize, tally: &Tally) -> io::Result<()> {
-    let Tally { right, wrong } = tally;
-    println!(rt; "{name}, {users}: {right} right, {wrong} wrong")
+    println!(rt; "{name}, {users}: {tally}")
 }
 
 fn main(rt: HostRuntime) -> io::Result<()> {
     let heap = rt.alloc();
     let mut random = Generator::new(20261118);
     for words in [0usize, 1, 63, 4096, 5000] {
-        report(&rt, "bit rows", words, &bare(heap, words, &mut random)?)?;
-        report(
-            &rt,
-            "one layer of seats",
-            words,
-            &seated(heap, words, 1, &mut random)?,
-        )?;
-        report(
-            &rt,
-            "two layers of seats",
-            words,
-            &seated(heap, words, 2, &mut random)?,
-        )?;
+        let plain = over_rows(heap, words, &mut random, |r, m, g| compare(r, m, g, CALLS))?;
+        report(&rt, "bit rows", words, &plain)?;
+        let one = over_rows(heap, words, &mut random, under_one)?;
+        report(&rt, "one layer of seats", words, &one)?;
+        let two = over_rows(heap, words, &mut random, under_two)?;
+        report(&rt, "two layers of seats", words, &two)?;
     }
     for users in [0usize, 1, 5, 70] {
         report(&rt, "flags", users, &flags(heap, users, &mut random)?)?;

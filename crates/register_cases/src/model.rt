@@ -1,4 +1,5 @@
 // A plain model of a register: every count is made anew from the rows.
+use register::RegisterFault;
 use std::alloc::{AllocError, Global};
 
 #[derive(Drop)]
@@ -8,28 +9,25 @@ pub(crate) struct Model {
 }
 
 impl Model {
-    // The rows are the first 4,096 words of a table.
-    pub(crate) fn of_rows(heap: Global, table: &[u64]) -> Result<Model, AllocError> {
-        let mut rows = Vec::new(heap);
-        for word in table.iter().take(4096) {
-            rows.push(*word)?;
-        }
-        Ok(Model {
+    // A user for each row, and seats for all of the most users that there may be.
+    fn new(rows: Vec<u64>) -> Model {
+        Model {
             rows,
             seats: [4096; 64],
-        })
+        }
+    }
+
+    // The rows are the first 4,096 words of a table.
+    pub(crate) fn of_rows(heap: Global, table: &[u64]) -> Result<Model, AllocError> {
+        let rows = table.iter().take(4096).copied().collect(heap)?;
+        Ok(Model::new(rows))
     }
 
     // So many users without roles.
     pub(crate) fn empty(heap: Global, users: usize) -> Result<Model, AllocError> {
         let mut rows = Vec::new(heap);
-        for _ in 0..users {
-            rows.push(0u64)?;
-        }
-        Ok(Model {
-            rows,
-            seats: [4096; 64],
-        })
+        rows.resize(users, 0)?;
+        Ok(Model::new(rows))
     }
 
     // Each role has at most so many seats.
@@ -55,45 +53,37 @@ impl Model {
         self.rows.get(user as usize).copied().unwrap_or(0)
     }
 
+    // The sum saturates, for nothing bounds the number of rows here.
     pub(crate) fn pairs(&self) -> usize {
-        let mut all = 0usize;
-        for row in self.rows.iter() {
-            all = all.saturating_add(row.count_ones() as usize);
-        }
-        all
+        let counts = self.rows.iter().map(|row| row.count_ones() as usize);
+        counts.fold(0usize, |all, count| all.saturating_add(count))
     }
 
     pub(crate) fn members(&self, role: u32) -> usize {
-        let mut all = 0usize;
-        for row in self.rows.iter() {
-            if held(*row, role) {
-                all = all.saturating_add(1);
-            }
-        }
-        all
+        self.rows.iter().filter(|row| held(**row, role)).count()
     }
 
-    // The number of add's refusal, or 0.
-    pub(crate) fn add(&mut self, user: u32, role: u32) -> u32 {
+    // Adds the pair, or says why not.
+    pub(crate) fn add(&mut self, user: u32, role: u32) -> Result<(), RegisterFault> {
         let (members, seats) = (self.members(role), self.seats(role));
         let (pairs, places) = (self.pairs(), self.places());
         let Some(row) = self.rows.get_mut(user as usize) else {
-            return 51;
+            return Err(RegisterFault::NoSuchPair);
         };
         if role > 63 {
-            return 51;
+            return Err(RegisterFault::NoSuchPair);
         }
         if held(*row, role) {
-            return 0;
+            return Ok(());
         }
         if members >= seats as usize {
-            return 52;
+            return Err(RegisterFault::SeatsFull(role));
         }
         if pairs >= places {
-            return 53;
+            return Err(RegisterFault::PlacesFull);
         }
-        *row = *row | single(role);
-        0
+        *row |= single(role);
+        Ok(())
     }
 
     // Whether the pair was held; it is not any more.
@@ -102,14 +92,12 @@ impl Model {
             return false;
         };
         let was = held(*row, role);
-        *row = *row & !single(role);
+        *row &= !single(role);
         was
     }
 
     pub(crate) fn clear(&mut self) {
-        for row in self.rows.iter_mut() {
-            *row = 0;
-        }
+        self.rows.fill(0);
     }
 }
 

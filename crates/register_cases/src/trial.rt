@@ -1,50 +1,21 @@
 // One run: the same calls to a register and to the model.
 use super::generator::Generator;
 use super::model::Model;
-use register::{Register, RegisterFault};
-use terms::refusals::Fault;
+use register::Register;
+use tally::Tally;
 
-// How many comparisons came out as the model has it.
-#[derive(Drop)]
-pub(crate) struct Tally {
-    pub(crate) right: u64,
-    pub(crate) wrong: u64,
-}
-
-impl Tally {
-    fn note(&mut self, same: bool) {
-        if same {
-            self.right = self.right.saturating_add(1);
-        } else {
-            self.wrong = self.wrong.saturating_add(1);
-        }
-    }
-
-    // The table that was lent holds the model's rows.
-    pub(crate) fn table(&mut self, model: &Model, table: &[u64]) {
-        for user in 0u32..4096 {
-            if (user as usize) < table.len() {
-                let word = table.get(user as usize).copied().unwrap_or(0);
-                self.note(word == model.row(user));
-            }
-        }
-    }
-
-    // The words past the first 4,096 are as they were.
-    pub(crate) fn spare(&mut self, before: &[u64], table: &[u64]) {
-        self.note(before.len() == table.len().saturating_sub(4096));
-        for (was, word) in before.iter().zip(table.iter().skip(4096)) {
-            self.note(*was == *word);
-        }
+// The table that was lent holds the model's rows.
+pub(crate) fn note_rows(tally: &mut Tally, model: &Model, table: &[u64]) {
+    for (user, word) in (0u32..4096).zip(table.iter()) {
+        tally.note(*word == model.row(user));
     }
 }
 
-// The number of a refusal, or 0; a refusal for want of seats names the role.
-fn number(answer: Result<(), RegisterFault>, role: u32) -> u32 {
-    match answer {
-        Ok(()) => 0,
-        Err(RegisterFault::SeatsFull(full)) => { if full == role { 52 } else { 1000 } }
-        Err(fault) => fault.number(),
+// The words past the first 4,096 are as they were.
+pub(crate) fn note_spare(tally: &mut Tally, before: &[u64], table: &[u64]) {
+    tally.note(before.len() == table.len().saturating_sub(4096));
+    for (was, word) in before.iter().zip(table.iter().skip(4096)) {
+        tally.note(*was == *word);
     }
 }
 
@@ -78,7 +49,7 @@ fn call<R: Register>(register: &mut R, model: &mut Model, random: &mut Generator
             model.clear();
             true
         }
-        n if n < 70 => number(register.add(user, role), role) == model.add(user, role),
+        n if n < 70 => register.add(user, role) == model.add(user, role),
         _ => register.remove(user, role) == model.remove(user, role),
     }
 }
@@ -90,14 +61,15 @@ fn counts<R: Register>(register: &R, model: &Model) -> bool {
         && register.pairs() as usize == model.pairs()
 }
 
-// Performs random calls, and compares each answer, every count and every row after it.
+// Performs random calls, and compares each answer, every count and every row after it; roles and users past the last are
+// asked for too.
 pub(crate) fn compare<R: Register>(
     register: &mut R,
     model: &mut Model,
     random: &mut Generator,
     calls: u32,
 ) -> Tally {
-    let mut tally = Tally { right: 0, wrong: 0 };
+    let mut tally = Tally::new();
     for _ in 0..calls {
         tally.note(call(register, model, random));
         tally.note(counts(register, model));

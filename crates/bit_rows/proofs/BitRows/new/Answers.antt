@@ -1,18 +1,13 @@
-use Rattle.std.proofs.Common.{length, ap, arith}
-use Rattle.bit_rows.specs.Table.{rows_of}
-use Rattle.bit_rows.proofs.Keeping.{Counts, counts_found}
-use Rattle.bit_rows.proofs.Words.{length_rows}
+use Rattle.std.proofs.Common.{List, ap, ◌∙◌, subst, ◌<◌, ◌^◌, ℕ}
+use Rattle.register.specs.Pairs.{row, pairs, having}
+use Rattle.register.proofs.Cases.{members_low}
 use Rattle.bit_rows.proofs.BitRows.new.Goals as goal
-
-pub count_pairs-pairs-requires : goal.count_pairs-pairs-requires
-count_pairs-pairs-requires c = omega (arith, length_rows c.args.table.now, ap length c.rows_of-rows.ensures)
-
-pub count_each_role-members-requires : goal.count_each_role-members-requires
-count_each_role-members-requires c = omega (arith, length_rows c.args.table.now, ap length c.rows_of-rows.ensures)
 
 pub invariant_of-result : goal.invariant_of-result
 invariant_of-result c =
-    let found : Counts (rows_of c.args.table.now) c.count_each_role-members.result c.count_pairs-pairs.result =
-    counts_found (rows_of c.args.table.now) c.rows_of-rows.result.now c.count_each_role-members.result c.count_pairs-pairs.result
-    c.rows_of-rows.ensures (omega (arith, length_rows c.args.table.now))
-    c.count_pairs-pairs.ensures.count c.count_pairs-pairs.ensures.most c.count_pairs-pairs.ensures.wide c.count_each_role-members.ensures in record { counted = found.counted; each = found.each; few = found.few; wide = found.wide; within = found.within }
+    let e = c.of-rows.ensures in
+    record {
+      counted = c.pairs-pairs.ensures ∙ ap pairs e;
+      each = λ r h. c.each_role-members.ensures r h ∙ members_low c.of-rows.result.words.now r h ∙ ap (having r) e;
+      wide = subst (λ (t : List ℕ). (u : ℕ) → row t u < 2 ^ 64) e c.of-rows.result.wide;
+    }
