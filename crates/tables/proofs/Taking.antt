@@ -1,16 +1,12 @@
 -- A record handed out as two fields is a pair's record, or one with a field that writes no number. Assumes nothing.
-use Rattle.std.proofs.Common.{◌≡◌, ℕ, ◌+◌, ◌<◌, ◌≤◌, min, ◌⊎◌, List, [], ◌∷◌, length, get_or, drop, sym, refl, ◌∙◌, subst, inl, inr, ⊎_elim, arith}
+use Rattle.std.proofs.Common.{◌≡◌, ℕ, ◌<◌, ◌⊎◌, List, [], ◌∷◌, length, get_or, drop, sym, refl, subst, inl, inr, ⊎_elim, arith}
 use Rattle.text.specs.declared.field.Field.{Field}
-use Rattle.text.specs.declared.field.TextFault.{TextFault}
-use Rattle.text.specs.Grammar.{sign, body, Recorded, NoRecordOf}
+use Rattle.text.specs.Grammar.{body, Recorded}
 use Rattle.text.specs.Numbers.{value, Number, NoNumber}
-use Rattle.text.specs.Scans.{past}
-use Rattle.text.specs.Faults.{Cause, ColumnsRefused}
-use Rattle.text.specs.Taken.{TookRecord, Bodies, Handed}
-use Rattle.text.specs.Taken.TookRecord.{last, more}
+use Rattle.text.specs.Taken.{Bodies, Handed}
 use Rattle.text.proofs.Digits.{same_number}
 use Rattle.text.proofs.Records.{record_later, took_within}
-use Rattle.tables.specs.Records.{digits, NotTwoFields, NotNumbers, TakesPair}
+use Rattle.tables.specs.Records.{digits, NotNumbers, TakesPair}
 
 -- a list of two
 pub two_is : {X : Type 0} (xs : List X) (d : X) → length xs ≡ 2 → xs ≡ get_or xs 0 d ∷ get_or xs 1 d ∷ []
@@ -19,24 +15,9 @@ two_is (x ∷ []) d e = absurd (omega arith)
 two_is (x ∷ y ∷ []) d e = refl
 two_is (x ∷ y ∷ z ∷ xs) d e = absurd (omega arith)
 
--- where bytes are left a reader starts at the place itself
-pub start_is : (at end : ℕ) → at < end → min at end ≡ at
-start_is at end l = omega arith
-
--- what is said of the reader's own text and place, of those that it was given
-pub handed_at : (s text : List ℕ) (p at next : ℕ) (fs : List Field) (d : Field) → s ≡ text → p ≡ min at (length text) → at < length text → length fs ≡ 2
-    → Handed s p fs next → Handed text at (get_or fs 0 d ∷ get_or fs 1 d ∷ []) next
-handed_at s text p at next fs d e k l n h =
-    let a = subst (λ u. Handed u p fs next) e h in
-    let b = subst (λ i. Handed text i fs next) (k ∙ start_is at (length text) l) a in
-    subst (λ gs. Handed text at gs next) (two_is fs d n) b
-
-pub refused_at : (s text : List ℕ) (p at : ℕ) (old new : List Field) (fault : TextFault) → s ≡ text → p ≡ min at (length text) → at < length text → length old ≡ 2
-    → ColumnsRefused s p old new fault → NotTwoFields text at fault
-refused_at s text p at old new fault e k l n h =
-    let a = subst (λ u. ColumnsRefused u p old new fault) e h in
-    let b = subst (λ i. ColumnsRefused text i old new fault) (k ∙ start_is at (length text) l) a in
-    record { absent = subst (λ m. NoRecordOf m (drop at text)) n b.absent; fields = b.fields; cause = subst (λ m. Cause text m at b.fields fault) n b.cause }
+-- what is said of two slots, of their two fields
+pub handed_two : (text : List ℕ) (at next : ℕ) (fs : List Field) (d : Field) → length fs ≡ 2 → Handed text at fs next → Handed text at (get_or fs 0 d ∷ get_or fs 1 d ∷ []) next
+handed_two text at next fs d n h = subst (λ gs. Handed text at gs next) (two_is fs d n) h
 
 -- the contents of two fields, as a record
 pub record Both (s : List ℕ) (f g : Field) (rest : List ℕ) : Type 0 where
@@ -52,20 +33,9 @@ both_of s rest f g (c ∷ []) r b = absurd b.1
 both_of s rest f g (c ∷ d ∷ []) r b = record { first = c; second = d; recorded = r; user = b.0; role = b.1.0 }
 both_of s rest f g (c ∷ d ∷ e ∷ cs) r b = absurd b.1.1
 
--- where a record of two fields ends
-end_is : (text : List ℕ) (at end next : ℕ) (f g : Field) → TookRecord text at (f ∷ g ∷ []) end next → next ≡ past g.quoted g.end + length (sign g.mark)
-end_is text at end next f g (more t e (last u n)) = u.closed.after
-end_is text at end next f g (more t e (more u k v)) = elim v [ ]
-
 module _ (text : List ℕ) (at next : ℕ) (f g : Field) (h : Handed text at (f ∷ g ∷ []) next) where
   both : Both (drop at text) f g (drop next text)
   both = both_of _ _ f g h.contents h.recorded h.bodies
-
-  pub next_is : next ≡ past g.quoted g.end + length (sign g.mark)
-  next_is = end_is text at h.end next f g h.took
-
-  pub end_within : past g.quoted g.end + length (sign g.mark) ≤ length text
-  end_within = omega (arith, next_is, took_within text at h.end next _ h.took)
 
   pub takes_pair : (user role : ℕ) → at < length text → Number digits f.bytes.now user → Number digits g.bytes.now role → TakesPair text at user role next
   takes_pair user role l n m = record {

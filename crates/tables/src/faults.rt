@@ -1,13 +1,12 @@
-ghost use Rattle.std.specs.Prelude.{◌≡◌};
 ghost use Rattle.tables.specs.Refusing.{shown};
 
 use super::RecordFault;
+use terms::refusals::Fault;
 
-impl RecordFault {
-    // The refusal's number.
-    pub fn number(&self) -> u32
-        ensures { result ≡ (shown self.now).number }
-    {
+impl Fault for RecordFault {
+    ghost shown = { shown };
+
+    fn number(&self) -> u32 {
         match self {
             RecordFault::Malformed(_) => 33,
             RecordFault::NotANumber => 34,

@@ -10,7 +10,7 @@ mod faults;
 pub mod reading;
 
 // What is wrong with a record.
-#[derive(Clone, Copy)]
+#[derive(Clone, Copy, PartialEq, Eq, Debug)]
 pub enum RecordFault {
     // it is no record of two fields
     Malformed(TextFault),

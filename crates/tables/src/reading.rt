@@ -1,14 +1,12 @@
 // The reader of an assignment table: a pair for each record.
-ghost use Rattle.std.specs.Prelude.{◌≡◌, ◌+◌, ◌^◌, ◌<◌, ◌≤◌, ◌⊎◌, length, MatchOption, MatchResult};
-ghost use Rattle.text.specs.Grammar.{sign};
-ghost use Rattle.text.specs.Scans.{past};
+ghost use Rattle.std.specs.Prelude.{◌≡◌, ◌≤◌, ◌⊎◌, length, MatchOption, MatchResult};
 ghost use Rattle.text.specs.Numbers.{Number, NoNumber};
 ghost use Rattle.text.specs.FirstLine.{Headed, NotHeaded};
 ghost use Rattle.tables.specs.Listing.{header};
 ghost use Rattle.tables.specs.Records.{digits, TakesPair, RefusesRecord};
 
 use super::RecordFault;
-use text::field::{Field, Mark};
+use text::field::Field;
 use text::header::header_end;
 use text::reader::Reader;
 
@@ -16,34 +14,16 @@ use text::reader::Reader;
 const DIGITS: usize = 4;
 
 // One pair of a table.
-#[derive(Clone, Copy)]
+#[derive(Clone, Copy, PartialEq, Eq, Debug)]
 pub struct Pair {
     pub user: u32,
     pub role: u32,
 }
 
-// A reader over a table's lent bytes, and the place where its next record begins.
-#[derive(Drop)]
+// A reader over a table's lent bytes, which stands where its next record begins.
+#[derive(Clone, Copy)]
 pub struct PairReader<'a> {
-    text: &'a [u8],
-    at: usize,
-}
-
-// The place after the field's mark.
-fn place_after(field: &Field) -> usize
-    requires { past field.now.quoted field.now.end + length (sign field.now.mark) < 2 ^ 64 }
-    ensures { result ≡ past field.now.quoted field.now.end + length (sign field.now.mark) }
-{
-    let after = if field.quoted {
-        field.end + 1
-    } else {
-        field.end
-    };
-    match field.mark {
-        Mark::Comma => after + 1,
-        Mark::Line => after + 2,
-        Mark::End => after,
-    }
+    reader: Reader<'a>,
 }
 
 // The pair whose numbers the fields write, if both write one.
@@ -61,28 +41,29 @@ fn pair_of(user: &Field, role: &Field) -> Option<Pair>
 impl<'a> PairReader<'a> {
     // A reader that stands after the header; none where the bytes before the first CR LF, or all, are not the header.
     pub fn new(text: &'a [u8]) -> Option<PairReader<'a>>
-        ensures start { MatchOption result (NotHeaded header text.now) (λ p. (p.text ≡ text.entry) × Headed header text.now p.at) }
+        ensures start { MatchOption result (NotHeaded header text.now) (λ p. (p.reader.text ≡ text.entry) × Headed header text.now p.reader.at) }
     {
         let at = header_end(text, b"user,role")?;
-        Some(PairReader { text, at })
+        let reader = Reader::starting(text, at);
+        Some(PairReader { reader })
     }
 
     // The next record's pair, none after the last; where a record is wrong the reader stays where it stands.
     pub fn next_pair(&mut self) -> Result<Option<Pair>, RecordFault>
-        ensures same { self.new.text ≡ self.old.text }
-        ensures pair { MatchResult result (λ o. MatchOption o ((length self.old.text.now ≤ self.old.at) × (self.new.at ≡ self.old.at)) (λ p. TakesPair self.old.text.now self.old.at p.user p.role self.new.at)) (λ e. RefusesRecord self.old.text.now self.old.at e self.new.at) }
+        ensures same { self.new.reader.text ≡ self.old.reader.text }
+        ensures pair { MatchResult result (λ o. MatchOption o ((length self.old.reader.text.now ≤ self.old.reader.at) × (self.new.reader.at ≡ self.old.reader.at)) (λ p. TakesPair self.old.reader.text.now self.old.reader.at p.user p.role self.new.reader.at)) (λ e. RefusesRecord self.old.reader.text.now self.old.reader.at e self.new.reader.at) }
     {
-        if self.at >= self.text.len() {
+        if self.reader.at_end() {
             return Ok(None);
         }
-        let mut reader = Reader::starting(self.text, self.at);
+        let mut reader = self.reader;
         let mut slots = [Field::empty(); 2];
         reader.next_record(&mut slots)?;
         let [user, role] = slots;
         let Some(pair) = pair_of(&user, &role) else {
             return Err(RecordFault::NotANumber);
         };
-        self.at = place_after(&role);
+        self.reader = reader;
         Ok(Some(pair))
     }
 }

@@ -1,5 +1,5 @@
 -- Where a mark stands, and where a quote closes. Assumes nothing.
-use Rattle.std.proofs.Common.{◌≡◌, ℕ, ◌+◌, ◌-◌, ◌<◌, ◌≤◌, List, [], ◌∷◌, ◌++◌, length, get_or, take, drop, sym, refl, ap, ◌∙◌, subst, ⊎_elim, append_assoc, append-nil, add-zero, arith, length-append, length-drop}
+use Rattle.std.proofs.Common.{◌≡◌, ℕ, ◌+◌, ◌-◌, ◌<◌, List, [], ◌∷◌, ◌++◌, length, get_or, take, drop, sym, refl, ap, ◌∙◌, subst, ⊎_elim, append_assoc, append-nil, add-zero, arith, length-append, length-drop}
 use Rattle.std.proofs.lemmas.List.{drop_more, drop_all, drop_at, drop-drop, take_rest, get_or-drop}
 use Rattle.std.proofs.lemmas.Bool.{cases_lt}
 use Rattle.text.specs.declared.field.Mark.{Mark}
@@ -79,9 +79,9 @@ no_quote s i n e =
     (λ l. let z : ◌≡◌ {A = ℕ} 0 34 = sym (ap (λ u. get_or u 0 0) (drop_all i s l)) ∙ e in omega arith)
     (cases_lt i (length s))
 
--- what is left begins with one quote, which closes the content
-pub escaped_close : (s : List ℕ) (from : ℕ) (rest : List ℕ) → EscapedBefore s from rest → from ≤ length s → 0 < length rest → get_or rest 0 0 ≡ 34 → (1 < length rest → get_or rest 1 0 ≡ 34 → ⊥) → Closes s from (length s - length rest)
-escaped_close s from rest h w l e n =
+-- what is left begins with one quote, and no second follows: it closes the content
+pub closes : (s : List ℕ) (from : ℕ) (rest : List ℕ) → EscapedBefore s from rest → 0 < length rest → get_or rest 0 0 ≡ 34 → (1 < length rest → get_or rest 1 0 ≡ 34 → ⊥) → Closes s from (length s - length rest)
+closes s from rest h l e n =
     let i : ℕ = length s - length rest in
     let long = ap length h.split in
     let parts = length-append (escape h.content) rest in

@@ -101,6 +101,7 @@ fn plain_run(bytes: &[u8]) -> usize
 // What a reader finds from its place on.
 impl<'a> Reader<'a> {
     // The first place that holds no plain byte, or the text's end.
+    #[tactic(auto, using(crate::proofs::Contents::plain_to, crate::proofs::Contents::plain_within, crate::proofs::Contents::plain_stops))]
     fn plain_end(&self) -> usize
         ensures within { (self.now.at ≤ result) × (result ≤ length self.now.text.now) }
         ensures run { PlainTo self.now.text.now self.now.at result }
@@ -110,6 +111,7 @@ impl<'a> Reader<'a> {
     }
 
     // The place of the quote that closes the content that begins here, if any does.
+    #[tactic(auto, using(crate::proofs::Marks::escaped_quote, crate::proofs::Marks::escaped_other))]
     fn quote_end(&self) -> Option<usize>
         ensures { MatchOption result (Unclosed self.now.text.now self.now.at) (λ i. Closes self.now.text.now self.now.at i) }
     {

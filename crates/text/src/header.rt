@@ -7,7 +7,10 @@ fn first_line(text: &[u8]) -> (usize, usize)
     ensures line { FirstLine text.now result.0 result.1 }
     ensures within { (result.0 ≤ length text.now) × (result.1 ≤ length text.now) }
 {
-    match text.windows(2).position(|pair| matches!(pair, [b'\r', b'\n'])) {
+    match text
+        .windows(2)
+        .position(|pair| matches!(pair, [b'\r', b'\n']))
+    {
         Some(i) => (i, i + 2),
         None => (text.len(), text.len()),
     }

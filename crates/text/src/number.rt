@@ -14,15 +14,12 @@ pub fn number(bytes: &[u8], limit: usize) -> Option<u64>
     ensures value { MatchOption result (NoNumber (counted limit) bytes.now) (λ n. Number (counted limit) bytes.now n) }
     ensures bound { IfSome result (λ n. n < 10 ^ counted limit) }
 {
-    if bytes.is_empty() || bytes.len() > limit || bytes.len() > MOST_DIGITS {
-        return None;
-    }
-    if bytes[0] == b'0' && bytes.len() > 1 {
+    if matches!(bytes, [] | [b'0', _, ..]) || bytes.len() > limit.min(MOST_DIGITS) {
         return None;
     }
     let mut n: u64 = 0;
     for b in bytes {
-        if *b < b'0' || *b > b'9' {
+        if !b.is_ascii_digit() {
             return None;
         }
         n = n * 10 + u64::from(*b - b'0');
