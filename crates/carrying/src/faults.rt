@@ -1,14 +1,13 @@
-ghost use Rattle.std.specs.Prelude.{◌≡◌};
 ghost use Rattle.carrying.specs.Carrying.{shown};
 
 use super::CarryFault;
 use register::RegisterFault;
+use terms::refusals::Fault;
 
-impl CarryFault {
-    // The refusal's number.
-    pub fn number(&self) -> u32
-        ensures { result ≡ (shown self.now).number }
-    {
+impl Fault for CarryFault {
+    ghost shown = { shown };
+
+    fn number(&self) -> u32 {
         match self {
             CarryFault::Turn(turn) => turn.fault.number(),
             CarryFault::Broken(_, _) => 15,

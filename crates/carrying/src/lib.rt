@@ -10,7 +10,7 @@ use changes::TurnFault;
 use register::RegisterFault;
 
 // Why a list of changes is refused.
-#[derive(Clone, Copy)]
+#[derive(Clone, Copy, PartialEq, Eq, Debug)]
 pub enum CarryFault {
     // a change is refused in its turn
     Turn(TurnFault),

@@ -73,14 +73,11 @@ module _ (u k : ℕ) (low : k < 64) where
 
   -- ---- all of them
 
-  apart : (v r v' r' : ℕ) → Assignment v r ≡ Withdrawal v' r' → ⊥
-  apart v r v' r' q = let z : ◌≡◌ {A = ℕ} 0 1 = cc in omega arith
-
   pub after_in : (cs : List Change) (w : ℕ) → In k (row_after u cs w) → Stands u k cs ⊎ (In k w × Unwithdrawn u k cs)
   after_in [] w h = inr (h, tt)
   after_in (Assignment v r ∷ cs) w h = elim (after_in cs (changed_row u (Assignment v r) w) h) [
     | inl s ↦ inl (inr s)
-    | inr x ↦ elim (assign_in v r w x.0) [ inl e ↦ inl (inl (e, x.1)) | inr y ↦ inr (y, (apart v r u k, x.1)) ]
+    | inr x ↦ elim (assign_in v r w x.0) [ inl e ↦ inl (inl (e, x.1)) | inr y ↦ inr (y, ((λ q. cc), x.1)) ]
   ]
   after_in (Withdrawal v r ∷ cs) w h = elim (after_in cs (changed_row u (Withdrawal v r) w) h) [
     | inl s ↦ inl (inr s)
@@ -93,7 +90,7 @@ module _ (u k : ℕ) (low : k < 64) where
   after_out (Assignment v r ∷ cs) w (inl (inl e)) = after_out cs (changed_row u (Assignment v r) w) (inr (assign_out v r w (inl e.0), e.1))
   after_out (Assignment v r ∷ cs) w (inl (inr s)) = after_out cs (changed_row u (Assignment v r) w) (inl s)
   after_out (Assignment v r ∷ cs) w (inr x) = after_out cs (changed_row u (Assignment v r) w) (inr (assign_out v r w (inr x.0), x.1.1))
-  after_out (Withdrawal v r ∷ cs) w (inl (inl e)) = absurd (apart u k v r (sym e.0))
+  after_out (Withdrawal v r ∷ cs) w (inl (inl e)) = cc
   after_out (Withdrawal v r ∷ cs) w (inl (inr s)) = after_out cs (changed_row u (Withdrawal v r) w) (inl s)
   after_out (Withdrawal v r ∷ cs) w (inr x) = after_out cs (changed_row u (Withdrawal v r) w) (inr (withdraw_out v r w x.0 x.1.0, x.1.1))
 

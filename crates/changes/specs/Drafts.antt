@@ -1,6 +1,7 @@
 -- The changes that a draft holds, and when it takes no more.
-use Rattle.std.specs.Prelude.{List, [], ◌∷◌, length, take, Option, nat_le}
+use Rattle.std.specs.Prelude.{List, [], ◌∷◌, length, Option, nat_le}
 use Rattle.terms.specs.Refusals.{Refusal, refusal, when, first_of}
+use Rattle.terms.specs.Lists.{listed as items_of}
 use Rattle.changes.specs.declared.Change.{Change}
 use Rattle.changes.specs.declared.Changes.{Changes}
 use Rattle.changes.specs.declared.DraftFault.{DraftFault}
@@ -8,7 +9,7 @@ use Rattle.changes.specs.declared.DraftFault.TheVariants.{Full}
 
 -- the changes, in order
 abbrev pub listed : Changes → List Change
-listed cs = take cs.count cs.items
+listed cs = items_of cs.items
 
 -- number and carried values of each fault
 abbrev pub shown : DraftFault → Refusal

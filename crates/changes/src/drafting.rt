@@ -2,8 +2,18 @@ ghost use Rattle.std.specs.Prelude.{◌≡◌, [], ◌∷◌, ◌++◌, is_ok, i
 ghost use Rattle.std.specs.Result.{result_err};
 ghost use Rattle.std.specs.Option.{option_map};
 ghost use Rattle.changes.specs.Drafts.{listed, shown, note_rows};
+ghost use Rattle.changes.specs.declared.DraftFault.TheVariants.{Full};
 
 use super::{Change, Changes, Draft, DraftFault};
+use terms::short_list::{NoRoom, ShortList};
+
+impl From<NoRoom> for DraftFault {
+    ghost from_gives = { λ _ f. f ≡ Full };
+
+    fn from(_: NoRoom) -> DraftFault {
+        DraftFault::Full
+    }
+}
 
 impl Changes {
     // No change.
@@ -11,8 +21,7 @@ impl Changes {
         ensures { listed result ≡ [] }
     {
         Changes {
-            items: [Change::Assignment(0, 0); 16],
-            count: 0,
+            items: ShortList::new(Change::Assignment(0, 0)),
         }
     }
 
@@ -21,19 +30,14 @@ impl Changes {
         ensures answer { option_map shown (result_err result) ≡ note_rows (listed self.old) }
         ensures after { listed self.new ≡ listed self.old ++ (if is_ok result then change ∷ [] else []) }
     {
-        if self.count >= 16 {
-            return Err(DraftFault::Full);
-        }
-        self.items[self.count] = change;
-        self.count += 1;
-        Ok(())
+        Ok(self.items.push(change)?)
     }
 
     // The changes, in order.
     pub fn as_slice(&self) -> &[Change]
         ensures { result.now ≡ listed self.now }
     {
-        &self.items[0..self.count]
+        self.items.as_slice()
     }
 }
 

@@ -1,25 +1,23 @@
-ghost use Rattle.std.specs.Prelude.{◌≡◌};
 ghost use Rattle.changes.specs.Drafts.{shown};
 ghost use Rattle.changes.specs.Turns.{shown_turn};
 
 use super::{ChangeFault, DraftFault};
+use terms::refusals::Fault;
 
-impl DraftFault {
-    // The refusal's number.
-    pub fn number(&self) -> u32
-        ensures { result ≡ (shown self.now).number }
-    {
+impl Fault for DraftFault {
+    ghost shown = { shown };
+
+    fn number(&self) -> u32 {
         match self {
             DraftFault::Full => 21,
         }
     }
 }
 
-impl ChangeFault {
-    // The refusal's number.
-    pub fn number(&self) -> u32
-        ensures { result ≡ (shown_turn self.now).number }
-    {
+impl Fault for ChangeFault {
+    ghost shown = { shown_turn };
+
+    fn number(&self) -> u32 {
         match self {
             ChangeFault::NoUser => 11,
             ChangeFault::NoRole => 12,

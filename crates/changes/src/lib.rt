@@ -1,15 +1,15 @@
 // Changes of an assignment, drafts of them, and what they make of a user's roles.
 #![tactic(auto)]
 
-ghost use Rattle.std.specs.Prelude.{◌≡◌, ℕ, ◌≤◌, length};
-
 mod drafting;
 mod faults;
 pub mod rows;
 pub mod turns;
 
+use terms::short_list::ShortList;
+
 // A change, with its user and role.
-#[derive(Clone, Copy)]
+#[derive(Clone, Copy, PartialEq, Eq, Debug)]
 pub enum Change {
     // the user is assigned to the role
     Assignment(u32, u32),
@@ -31,19 +31,16 @@ pub enum ChangeFault {
 }
 
 // A change that is refused in its turn: its number in the list, from 0, and why.
-#[derive(Clone, Copy)]
+#[derive(Clone, Copy, PartialEq, Eq, Debug)]
 pub struct TurnFault {
     pub change: usize,
     pub fault: ChangeFault,
 }
 
-// At most 16 changes in order: the first of the table, as many as the count says.
+// At most 16 changes, in order.
 #[derive(Clone, Copy)]
 pub struct Changes {
-    items: [Change; 16],
-    count: usize,
-    ghost whole: { length items ≡ 16 },
-    ghost few: { count ≤ 16 },
+    items: ShortList<Change, 16>,
 }
 
 // A draft is neither `Drop` nor `Copy`: it is carried or struck, once.

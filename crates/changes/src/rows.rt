@@ -14,20 +14,11 @@ impl Change {
         ensures { result ≡ changed_row user self roles }
     {
         match self {
-            Change::Assignment(who, role) => {
-                if who == user {
-                    with_member(roles, role)
-                } else {
-                    roles
-                }
+            Change::Assignment(who, role) if who == user => with_member(roles, role),
+            Change::Withdrawal(who, role) if who == user && contains(roles, role) && role < 64 => {
+                roles ^ (1u64 << role)
             }
-            Change::Withdrawal(who, role) => {
-                if who == user && contains(roles, role) && role < 64 {
-                    roles ^ (1u64 << role)
-                } else {
-                    roles
-                }
-            }
+            _ => roles,
         }
     }
 }

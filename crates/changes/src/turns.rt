@@ -16,8 +16,7 @@ impl Change {
         ensures { result ≡ user_of self }
     {
         match self {
-            Change::Assignment(user, _) => user,
-            Change::Withdrawal(user, _) => user,
+            Change::Assignment(user, _) | Change::Withdrawal(user, _) => user,
         }
     }
 
@@ -25,31 +24,17 @@ impl Change {
     pub fn checked(self, users: u32, roles: RoleSet) -> Result<(), ChangeFault>
         ensures { option_map shown_turn (result_err result) ≡ change_rows users roles self }
     {
-        match self {
-            Change::Assignment(user, role) => {
-                if user >= users {
-                    return Err(ChangeFault::NoUser);
-                }
-                if role > 63 {
-                    return Err(ChangeFault::NoRole);
-                }
-                if contains(roles, role) {
-                    return Err(ChangeFault::Held);
-                }
-                Ok(())
-            }
-            Change::Withdrawal(user, role) => {
-                if user >= users {
-                    return Err(ChangeFault::NoUser);
-                }
-                if role > 63 {
-                    return Err(ChangeFault::NoRole);
-                }
-                if contains(roles, role) {
-                    return Ok(());
-                }
-                Err(ChangeFault::NotHeld)
-            }
+        let (Change::Assignment(user, role) | Change::Withdrawal(user, role)) = self;
+        if user >= users {
+            return Err(ChangeFault::NoUser);
+        }
+        if role > 63 {
+            return Err(ChangeFault::NoRole);
+        }
+        match (self, contains(roles, role)) {
+            (Change::Assignment(..), true) => Err(ChangeFault::Held),
+            (Change::Withdrawal(..), false) => Err(ChangeFault::NotHeld),
+            _ => Ok(()),
         }
     }
 }
@@ -59,10 +44,9 @@ pub fn first_refused<R: Register>(register: &R, changes: &[Change]) -> Option<Tu
     ensures { MatchOption result (AllTaken (R.Register.model register.now).rows changes.now) (λ x. FirstRefused (R.Register.model register.now).rows changes.now x) }
 {
     let users = register.users();
-    for i in 0..changes.len() {
-        let change = changes[i];
+    for (i, change) in changes.iter().enumerate() {
         let user = change.user();
-        let roles = row_after(&changes[0..i], user, register.row(user));
+        let roles = row_after(&changes[..i], user, register.row(user));
         if let Err(fault) = change.checked(users, roles) {
             return Some(TurnFault { change: i, fault });
         }
