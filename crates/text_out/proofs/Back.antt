@@ -1,6 +1,6 @@
 -- A written table is read back. Assumes nothing.
 use Rattle.std.proofs.Common.{◌≡◌, ℕ, ◌+◌, ◌^◌, ◌<◌, ◌≤◌, false, List, [], ◌∷◌, ◌++◌, map, length, take, drop, decimal, sym, refl, ap, ◌∙◌, subst, inl, ⊎_elim, append_assoc, arith, length-append, rules}
-use Rattle.std.specs.List.{flat_map}
+use Rattle.std.specs.List.{flat_map, AllZip}
 use Rattle.std.proofs.lemmas.Fmt.{digits_decimal, digits_value-decimal, length-decimal-le, decimal_nonempty, first_decimal, decimal_digit}
 use Rattle.std.proofs.lemmas.List.{take_at, drop_at, get_or_at, get_or_append_left, get_or-append-add}
 use Rattle.std.proofs.lemmas.Str.Parse.{IsNumeralModel, numerals_by_fold}
@@ -63,8 +63,8 @@ module _ (limit : ℕ) (some : 0 < limit) (few : limit ≤ 19) where
 
   lines_read : (rs : List (List ℕ)) → Writable limit rs → Reading (flat_map line rs) (map (map decimal) rs)
   lines_read [] w = none
-  lines_read ([] ∷ rs) w = let l = w.0 in absurd (omega arith)
-  lines_read ((n ∷ ns) ∷ rs) w = next (line_some n ns (flat_map line rs) w.1.0) (line_recorded n ns (flat_map line rs) w.1.0 w.1.1) (lines_read rs w.2)
+  lines_read ([] ∷ rs) w = let l = w.0.0 in absurd (omega arith)
+  lines_read ((n ∷ ns) ∷ rs) w = next (line_some n ns (flat_map line rs) w.0.1.0) (line_recorded n ns (flat_map line rs) w.0.1.0 w.0.1.1) (lines_read rs w.1)
 
   writes : (ns : List ℕ) → Small limit ns → Writes limit (map decimal ns) ns
   writes [] s = tt
@@ -72,7 +72,7 @@ module _ (limit : ℕ) (some : 0 < limit) (few : limit ≤ 19) where
 
   writes_all : (rs : List (List ℕ)) → Writable limit rs → WritesAll limit (map (map decimal) rs) rs
   writes_all [] w = tt
-  writes_all (r ∷ rs) w = (writes r w.1, writes_all rs w.2)
+  writes_all (r ∷ rs) w = (writes r w.0.1, writes_all rs w.1)
 
 line_end : (header t : List ℕ) (k : ℕ) → OneLine header → k < length header → LineAt (header ++ (newline ++ t)) k → ⊥
 line_end header t k one l h =
@@ -99,28 +99,24 @@ headed header t one =
       same = take_at header (newline ++ t) (length header) refl;
     })
 
-writes_unique : (limit : ℕ) (cs : List (List ℕ)) (ns ms : List ℕ) → Writes limit cs ns → Writes limit cs ms → ns ≡ ms
-writes_unique limit [] [] [] h k = refl
-writes_unique limit [] [] (m ∷ ms) h k = absurd k
-writes_unique limit [] (n ∷ ns) ms h k = absurd h
-writes_unique limit (c ∷ cs) [] ms h k = absurd h
-writes_unique limit (c ∷ cs) (n ∷ ns) [] h k = absurd k
-writes_unique limit (c ∷ cs) (n ∷ ns) (m ∷ ms) h k = let a = h.0.means in let b = k.0.means in let e = writes_unique limit cs ns ms h.1 k.1 in cc
+-- place by place, what stands beside a list is one list, if it is one item at each place
+all_unique : {A B : Type 0} (R : A → B → Type 0) → ((x : A) (y z : B) → R x y → R x z → y ≡ z) → (xs : List A) (ys zs : List B) → AllZip R xs ys → AllZip R xs zs → ys ≡ zs
+all_unique R u [] [] [] h k = refl
+all_unique R u [] [] (z ∷ zs) h k = absurd k
+all_unique R u [] (y ∷ ys) zs h k = absurd h
+all_unique R u (x ∷ xs) [] zs h k = absurd h
+all_unique R u (x ∷ xs) (y ∷ ys) [] h k = absurd k
+all_unique R u (x ∷ xs) (y ∷ ys) (z ∷ zs) h k = cc (u x y z h.0 k.0, all_unique R u xs ys zs h.1 k.1)
 
-all_unique : (limit : ℕ) (css : List (List (List ℕ))) (rs qs : List (List ℕ)) → WritesAll limit css rs → WritesAll limit css qs → rs ≡ qs
-all_unique limit [] [] [] h k = refl
-all_unique limit [] [] (q ∷ qs) h k = absurd k
-all_unique limit [] (r ∷ rs) qs h k = absurd h
-all_unique limit (cs ∷ css) [] qs h k = absurd h
-all_unique limit (cs ∷ css) (r ∷ rs) [] h k = absurd k
-all_unique limit (cs ∷ css) (r ∷ rs) (q ∷ qs) h k = let a = writes_unique limit cs r q h.0 k.0 in let e = all_unique limit css rs qs h.1 k.1 in cc
+numbers_unique : (limit : ℕ) (c : List ℕ) (n m : ℕ) → Number limit c n → Number limit c m → n ≡ m
+numbers_unique limit c n m h k = let a = h.means in let b = k.means in cc
 
 -- a text is a table of one list of records
 table_unique : (limit : ℕ) (header text : List ℕ) (rs qs : List (List ℕ)) → Table limit header text rs → Table limit header text qs → rs ≡ qs
 table_unique limit header text rs qs h k =
     let e = headed_unique header header text h.next k.next h.headed k.headed in
     let d = reading_unique (drop k.next text) h.contents k.contents (subst (λ n. Reading (drop n text) h.contents) e h.reading) k.reading in
-    all_unique limit k.contents rs qs (subst (λ c. WritesAll limit c rs) d h.numbers) k.numbers
+    all_unique (Writes limit) (all_unique (Number limit) (numbers_unique limit)) k.contents rs qs (subst (λ c. WritesAll limit c rs) d h.numbers) k.numbers
 
 pub round_trip : RoundTrip
 round_trip header rs limit some few one w =

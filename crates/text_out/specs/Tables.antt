@@ -1,5 +1,6 @@
 -- A table of numbers: its header and its records, as a text is read.
-use Rattle.std.specs.Prelude.{◌≡◌, ℕ, ◌^◌, ◌<◌, ◌≤◌, List, [], ◌∷◌, length, drop}
+use Rattle.std.specs.Prelude.{◌≡◌, ℕ, ◌^◌, ◌<◌, ◌≤◌, List, length, drop}
+use Rattle.std.specs.List.{AllZip, AllByRecursion}
 use Rattle.text.specs.Grammar.{Reading}
 use Rattle.text.specs.Numbers.{Number}
 use Rattle.text.specs.FirstLine.{NoLineBefore, Headed}
@@ -7,17 +8,11 @@ use Rattle.text_out.specs.Written.{table}
 
 -- these contents write these numbers, each with at most `limit` digits
 abbrev pub Writes : ℕ → List (List ℕ) → List ℕ → Type 0
-Writes limit [] [] = Unit {0}
-Writes limit [] (n ∷ ns) = ⊥
-Writes limit (c ∷ cs) [] = ⊥
-Writes limit (c ∷ cs) (n ∷ ns) = Number limit c n × Writes limit cs ns
+Writes limit = AllZip (Number limit)
 
 -- the same, record by record
 abbrev pub WritesAll : ℕ → List (List (List ℕ)) → List (List ℕ) → Type 0
-WritesAll limit [] [] = Unit {0}
-WritesAll limit [] (r ∷ rs) = ⊥
-WritesAll limit (cs ∷ css) [] = ⊥
-WritesAll limit (cs ∷ css) (r ∷ rs) = Writes limit cs r × WritesAll limit css rs
+WritesAll limit = AllZip (Writes limit)
 
 -- the text is a table with this header, and its records are these numbers in this order
 pub record Table (limit : ℕ) (header text : List ℕ) (records : List (List ℕ)) : Type 0 where
@@ -38,13 +33,11 @@ OneLine header = NoLineBefore header (length header)
 
 -- each of these numbers has at most `limit` digits
 abbrev pub Small : ℕ → List ℕ → Type 0
-Small limit [] = Unit {0}
-Small limit (n ∷ ns) = (n < 10 ^ limit) × Small limit ns
+Small limit = AllByRecursion (λ n. n < 10 ^ limit)
 
 -- each record has a number, and all have at most `limit` digits
 abbrev pub Writable : ℕ → List (List ℕ) → Type 0
-Writable limit [] = Unit {0}
-Writable limit (r ∷ rs) = (0 < length r) × Small limit r × Writable limit rs
+Writable limit = AllByRecursion (λ r. (0 < length r) × Small limit r)
 
 -- the text is read back as these records, for every digit limit from 1 to 19 that their numbers keep
 abbrev pub Back : List ℕ → List (List ℕ) → List ℕ → Type 0
