@@ -11,16 +11,16 @@ use Rattle.plan.specs.declared.Plan.{Plan}
 use Rattle.plan.specs.declared.PlanFault.{PlanFault}
 use Rattle.judge.specs.Judging.{Witnessed}
 use Rattle.script.specs.Listing.{Told}
-use Rattle.console.specs.declared.answers.Answer.{Answer}
-use Rattle.console.specs.declared.answers.Answer.TheVariants as answer
+use Rattle.console.specs.declared.answers.Reply.TheVariants as reply
+use Rattle.console.specs.declared.answers.Refusal.TheVariants as refusal
 use Rattle.console.specs.declared.calls.Call.{Call}
 use Rattle.console.specs.declared.calls.Call.TheVariants as call
 use Rattle.console.specs.declared.state.State.{State}
-use Rattle.console.specs.Answering.{told}
+use Rattle.console.specs.Answering.{Answer, told}
 
 -- an empty plan was begun, and the place kept
 pub record Begun (s : State) (a : Answer) (t : State) : Type 0 where
-  pub accepted : a ≡ answer.Accepted
+  pub accepted : a ≡ Ok reply.Accepted
   pub empty : vec_items t.log ≡ []
   pub kept : t.place ≡ s.place
 
@@ -34,34 +34,32 @@ pub record Logged (s : State) (x : Addition) (a : Answer) (t : State) : Type 0 w
 
 -- a question was answered with this set, and nothing changed
 pub record Asked (s : State) (members : ℕ) (a : Answer) (t : State) : Type 0 where
-  pub shows : a ≡ answer.Set (record { set = members })
+  pub shows : a ≡ Ok (reply.Set (record { set = members }))
   pub same : t ≡ s
 
 -- the answer is right for the plan: accepted, it enforces its policies; refused, it does not, and the witness tells who could break
 -- the lowest policy that is not enforced
 abbrev pub Right : Plan → Answer → Type 0
-Right p answer.Accepted = Enforced p
-Right p (answer.Refused fault) = ⊥
-Right p (answer.Breachable breach) = Breachable p × Witnessed p breach.witness
-Right p (answer.Set members) = ⊥
-Right p (answer.Fields list) = ⊥
-Right p (answer.WrongRecord number) = ⊥
+Right p (Ok r) = (r ≡ reply.Accepted) × Enforced p
+Right p (Err (refusal.Addition fault)) = ⊥
+Right p (Err (refusal.Plan breach)) = Breachable p × Witnessed p breach.witness
+Right p (Err (refusal.Text wrong)) = ⊥
 
 -- the plan of the same additions was judged; an accepted plan is put into the place, and else the place is kept
 pub record Judged (s : State) (a : Answer) (t : State) : Type 0 where
   pub same : additions (vec_items t.log) ≡ additions (vec_items s.log)
   pub right : Right t.plan a
-  pub filled : a ≡ answer.Accepted → t.place.plan ≡ t.plan
-  pub kept : (a ≢ answer.Accepted) → t.place ≡ s.place
+  pub filled : a ≡ Ok reply.Accepted → t.place.plan ≡ t.plan
+  pub kept : (a ≢ Ok reply.Accepted) → t.place ≡ s.place
 
 -- the answer tells the places of the text's fields, or its first wrong record
 abbrev pub Fielded : List ℕ → Answer → Type 0
-Fielded text answer.Accepted = ⊥
-Fielded text (answer.Refused fault) = ⊥
-Fielded text (answer.Breachable breach) = ⊥
-Fielded text (answer.Set members) = ⊥
-Fielded text (answer.Fields list) = Told text (Ok list)
-Fielded text (answer.WrongRecord number) = Told text (Err number)
+Fielded text (Ok reply.Accepted) = ⊥
+Fielded text (Ok (reply.Set members)) = ⊥
+Fielded text (Ok (reply.Fields list)) = Told text (Ok list)
+Fielded text (Err (refusal.Addition fault)) = ⊥
+Fielded text (Err (refusal.Plan breach)) = ⊥
+Fielded text (Err (refusal.Text wrong)) = Told text (Err wrong)
 
 -- each call in turn
 abbrev pub Performed : State → Call → Answer → State → Type 0

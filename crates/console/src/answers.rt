@@ -1,19 +1,47 @@
 // What calls are answered, and how it is printed.
-ghost use Rattle.std.specs.Prelude.{◌≡◌};
-ghost use Rattle.console.specs.Answering.{counted};
-
-use super::tally::Outcome;
 use judge::{JudgeFault, Witness};
 use plan::PlanFault;
 use script::fields::FieldList;
 use script::sets::Members;
 use std::fmt;
+use terms::refusals::Fault;
+use text::walk::WrongRecord;
+
+// What a call gives that is carried out.
+#[derive(Drop)]
+pub(crate) enum Reply {
+    Accepted,
+    Set(Members),
+    // the records of a text, with the places of their fields
+    Fields(FieldList),
+}
 
 // Why a plan is not accepted, and who could break which of its policies.
 #[derive(Clone, Copy)]
 pub(crate) struct Breach {
     pub(crate) fault: JudgeFault,
     pub(crate) witness: Witness,
+}
+
+// Why a call is refused.
+#[derive(Clone, Copy)]
+pub(crate) enum Refusal {
+    Addition(PlanFault),
+    Plan(Breach),
+    Text(WrongRecord),
+}
+
+// The answer to a call.
+pub(crate) type Answer = Result<Reply, Refusal>;
+
+impl fmt::Display for Reply {
+    fn fmt<W: fmt::Write>(&self, f: &mut fmt::Formatter<W>) -> fmt::Result {
+        match self {
+            Reply::Accepted => write!(f, "accepted"),
+            Reply::Set(members) => write!(f, "{members}"),
+            Reply::Fields(list) => write!(f, "{list}"),
+        }
+    }
 }
 
 impl fmt::Display for Breach {
@@ -30,43 +58,18 @@ impl fmt::Display for Breach {
     }
 }
 
-// The answer to a call.
-#[derive(Drop)]
-pub(crate) enum Answer {
-    Accepted,
-    Refused(PlanFault),
-    Breachable(Breach),
-    Set(Members),
-    // the records of a text, with the places of their fields
-    Fields(FieldList),
-    // the first wrong record of a text, counted from 1
-    WrongRecord(usize),
-}
-
-impl Answer {
-    // What it counts as.
-    pub(super) fn outcome(&self) -> Outcome
-        ensures { result ≡ counted self.now }
-    {
-        match self {
-            Answer::Accepted | Answer::Set(_) | Answer::Fields(_) => Outcome::Accepted,
-            Answer::Refused(_) | Answer::Breachable(_) | Answer::WrongRecord(_) => Outcome::Refused,
-        }
-    }
-}
-
-impl fmt::Display for Answer {
+impl fmt::Display for Refusal {
     fn fmt<W: fmt::Write>(&self, f: &mut fmt::Formatter<W>) -> fmt::Result {
         match self {
-            Answer::Accepted => write!(f, "accepted"),
-            Answer::Refused(fault) => {
+            Refusal::Addition(fault) => {
                 let number = fault.number();
                 write!(f, "refused {number}")
             }
-            Answer::Breachable(breach) => write!(f, "{breach}"),
-            Answer::Set(members) => write!(f, "{members}"),
-            Answer::Fields(list) => write!(f, "{list}"),
-            Answer::WrongRecord(number) => write!(f, "wrong record {number}"),
+            Refusal::Plan(breach) => write!(f, "{breach}"),
+            Refusal::Text(wrong) => {
+                let number = wrong.number;
+                write!(f, "wrong record {number}")
+            }
         }
     }
 }

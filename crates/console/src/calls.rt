@@ -1,4 +1,5 @@
 use plan::Addition;
+use script::words::{members, number};
 use terms::sets::RoleSet;
 
 // One call of the service.
@@ -16,4 +17,30 @@ pub(crate) enum Call {
     Judge,
     // the places of the fields in a text
     Fields(Vec<u8>),
+}
+
+impl Call {
+    // The call that the words make, if they make one: its name, and what it is given.
+    pub(super) fn of(words: &[&str]) -> Option<Call> {
+        let call = match words {
+            ["new"] => Call::New,
+            ["senior", senior, junior] => {
+                Call::Add(Addition::Senior(number(senior)?, number(junior)?))
+            }
+            ["grant", role, permission] => {
+                Call::Add(Addition::Grant(number(role)?, number(permission)?))
+            }
+            ["policy", least, permissions @ ..] => {
+                Call::Add(Addition::Policy(members(permissions)?, number(least)?))
+            }
+            ["constraint", limit, roles @ ..] => {
+                Call::Add(Addition::Constraint(members(roles)?, number(limit)?))
+            }
+            ["authorised-roles", roles @ ..] => Call::AuthorisedRoles(members(roles)?),
+            ["held-permissions", roles @ ..] => Call::HeldPermissions(members(roles)?),
+            ["judge"] => Call::Judge,
+            _ => return None,
+        };
+        Some(call)
+    }
 }

@@ -1,10 +1,10 @@
 // A whole script: its lines one by one, and the totals.
-ghost use Rattle.std.specs.Prelude.{◌≤◌, length};
+ghost use Rattle.std.specs.Prelude.{◌≡◌, ◌+◌, ◌^◌, ◌<◌, ◌≤◌, length};
 
 use super::reading::read_call;
 use super::state::State;
 use super::tally::{Outcome, Totals};
-use script::lines::next_line;
+use script::lines::Lines;
 use std::alloc::Global;
 use std::io;
 use std::io::Write;
@@ -12,45 +12,73 @@ use std::io::Write;
 // The most bytes that a script may have.
 pub(crate) const MOST_BYTES: usize = 1048576;
 
-// Prints what a line has to print: a comment or an empty line as it is, a call with its answer. Gives what became of a call.
-fn perform_line(
-    state: &mut State,
+// What the calls so far have made, what became of them, and what they have printed.
+#[derive(Drop)]
+struct Session {
     heap: Global,
-    number: u32,
-    line: &[u8],
-    out: &mut Vec<u8>,
-) -> io::Result<Option<Outcome>> {
-    if let [] | [b'#', ..] = line {
-        out.extend_from_slice(line)?;
-        out.push(b'\n')?;
-        return Ok(None);
+    state: State,
+    totals: Totals,
+    out: Vec<u8>,
+}
+
+impl Session {
+    fn new(heap: Global) -> Session
+        ensures { result.totals.calls ≡ 0 }
+    {
+        Session {
+            heap,
+            state: State::new(heap),
+            totals: Totals::new(),
+            out: Vec::new(heap),
+        }
     }
-    let Some(call) = read_call(heap, line)? else {
-        writeln!(out, "line {number}: not understood")?;
-        return Ok(Some(Outcome::NotUnderstood));
-    };
-    let answer = state.perform(heap, call)?;
-    out.extend_from_slice(line)?;
-    writeln!(out, " -> {answer}")?;
-    Ok(Some(answer.outcome()))
+
+    // Performs the call of a line, and prints the line with its answer. Gives what became of the call.
+    fn perform_call(&mut self, number: usize, line: &[u8]) -> io::Result<Outcome>
+        ensures { self.new.totals ≡ self.old.totals }
+    {
+        let Some(call) = read_call(self.heap, line)? else {
+            writeln!(self.out, "line {number}: not understood")?;
+            return Ok(Outcome::NotUnderstood);
+        };
+        let answer = self.state.perform(call)?;
+        self.out.extend_from_slice(line)?;
+        match &answer {
+            Ok(reply) => writeln!(self.out, " -> {reply}")?,
+            Err(refusal) => writeln!(self.out, " -> {refusal}")?,
+        }
+        Ok(Outcome::of(&answer))
+    }
+
+    // Prints a comment or an empty line as it is, and performs any other line.
+    fn perform_line(&mut self, number: usize, line: &[u8]) -> io::Result<()>
+        requires { self.old.totals.calls + 1 < 2 ^ 32 }
+        ensures { self.new.totals.calls ≤ self.old.totals.calls + 1 }
+    {
+        if let [] | [b'#', ..] = line {
+            self.out.extend_from_slice(line)?;
+            self.out.push(b'\n')?;
+            return Ok(());
+        }
+        let outcome = self.perform_call(number, line)?;
+        self.totals.count(outcome);
+        Ok(())
+    }
 }
 
 // What the script prints.
 pub(super) fn run(heap: Global, script: &[u8]) -> io::Result<Vec<u8>>
     requires { length script.now ≤ 1048576 }
 {
-    let mut out = Vec::new(heap);
-    let mut state = State::new(heap);
-    let mut totals = Totals::new();
-    let mut number: u32 = 0;
-    let mut rest = script;
-    while let Some((line, after)) = next_line(rest) {
-        number += 1;
-        if let Some(outcome) = perform_line(&mut state, heap, number, line, &mut out)? {
-            totals.count(outcome);
-        }
-        rest = after;
+    let mut session = Session::new(heap);
+    for (i, line) in Lines::new(script).enumerate() {
+        session.perform_line(i + 1, line)?;
     }
+    let Session {
+        totals,
+        mut out,
+        ..
+    } = session;
     writeln!(out, "{totals}")?;
     Ok(out)
 }

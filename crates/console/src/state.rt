@@ -3,6 +3,7 @@ ghost use Rattle.plan.specs.History.{accepted, Means};
 
 use judge::JudgedPlan;
 use plan::{Entry, Plan};
+use std::alloc::Global;
 
 mod performing;
 
@@ -10,6 +11,7 @@ mod performing;
 // accepted plan. The plan is exactly what was accepted of those additions.
 #[derive(Drop)]
 pub(crate) struct State {
+    heap: Global,
     plan: Plan,
     log: Vec<Entry>,
     place: JudgedPlan,

@@ -1,18 +1,32 @@
 // How many calls there were, and what became of them.
 ghost use Rattle.std.specs.Prelude.{◌≡◌, ◌+◌, ◌^◌, ◌<◌, ◌++◌, Some, codes, decimal};
+ghost use Rattle.console.specs.Answering.{counted};
 ghost use Rattle.console.specs.Tallying.{adds as shares};
 
+use super::answers::Answer;
 use std::fmt;
 
 // What became of a call.
-#[derive(Clone, Copy)]
+#[derive(Clone, Copy, PartialEq, Eq, Debug)]
 pub(crate) enum Outcome {
     Accepted,
     Refused,
     NotUnderstood,
 }
 
-#[derive(Clone, Copy)]
+impl Outcome {
+    // What an answer counts as.
+    pub(super) fn of(answer: &Answer) -> Outcome
+        ensures { result ≡ counted answer.now }
+    {
+        match answer {
+            Ok(_) => Outcome::Accepted,
+            Err(_) => Outcome::Refused,
+        }
+    }
+}
+
+#[derive(Clone, Copy, PartialEq, Eq, Debug)]
 pub(crate) struct Totals {
     calls: u32,
     accepted: u32,

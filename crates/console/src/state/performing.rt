@@ -1,11 +1,11 @@
 // The calls of the service.
-ghost use Rattle.std.specs.Prelude.{◌≡◌, [], IfOk};
+ghost use Rattle.std.specs.Prelude.{◌≡◌, [], Ok, IfOk};
 ghost use Rattle.plan.specs.Authority.{authorised, held};
-ghost use Rattle.console.specs.declared.answers.Answer.TheVariants.{Set};
+ghost use Rattle.console.specs.declared.answers.Reply.TheVariants.{Set};
 ghost use Rattle.console.specs.Performed.{Begun, Logged, Judged, Fielded, Performed};
 
 use super::State;
-use crate::answers::{Answer, Breach};
+use crate::answers::{Answer, Breach, Refusal, Reply};
 use crate::calls::Call;
 use commission::commission;
 use judge::{JudgedPlan, Witness};
@@ -19,10 +19,8 @@ use terms::sets::RoleSet;
 fn fields(heap: Global, text: &[u8]) -> Result<Answer, AllocError>
     ensures { IfOk result (λ a. Fielded text.now a) }
 {
-    match list_fields(heap, text)? {
-        Ok(list) => Ok(Answer::Fields(list)),
-        Err(number) => Ok(Answer::WrongRecord(number)),
-    }
+    let told = list_fields(heap, text)?;
+    Ok(told.map(Reply::Fields).map_err(Refusal::Text))
 }
 
 impl State {
@@ -31,6 +29,7 @@ impl State {
         ensures { result.log.items ≡ [] }
     {
         State {
+            heap,
             plan: Plan::new(),
             log: Vec::new(heap),
             place: JudgedPlan::new(),
@@ -38,12 +37,12 @@ impl State {
     }
 
     // Begins an empty plan; the place keeps the last accepted one.
-    fn begin(&mut self) -> Answer
-        ensures { Begun self.old result self.new }
+    fn begin(&mut self) -> Reply
+        ensures { Begun self.old (Ok result) self.new }
     {
         self.log.clear();
         self.plan = Plan::new();
-        Answer::Accepted
+        Reply::Accepted
     }
 
     // Adds to the plan, and notes the addition with its answer.
@@ -54,26 +53,23 @@ impl State {
         let answer = plan.add(addition);
         self.log.push(Entry { addition, answer })?;
         self.plan = plan;
-        match answer {
-            Ok(()) => Ok(Answer::Accepted),
-            Err(fault) => Ok(Answer::Refused(fault)),
-        }
+        Ok(answer.map(|()| Reply::Accepted).map_err(Refusal::Addition))
     }
 
     // The roles that a user with these roles is authorised for.
-    fn authorised_roles(&self, roles: RoleSet) -> Answer
+    fn authorised_roles(&self, roles: RoleSet) -> Reply
         ensures { result ≡ Set (record { set = authorised self.now.plan roles }) }
     {
         let set = self.plan.authorised(roles);
-        Answer::Set(Members { set })
+        Reply::Set(Members { set })
     }
 
     // The permissions that he holds.
-    fn held_permissions(&self, roles: RoleSet) -> Answer
+    fn held_permissions(&self, roles: RoleSet) -> Reply
         ensures { result ≡ Set (record { set = held self.now.plan roles }) }
     {
         let set = self.plan.held(roles);
-        Answer::Set(Members { set })
+        Reply::Set(Members { set })
     }
 
     // Judges the plan that the additions of the log make; it is then the plan being written.
@@ -84,22 +80,22 @@ impl State {
         let judgement = commission(self.log.as_mut_slice(), &mut self.place, &mut witness);
         self.plan = judgement.plan;
         match judgement.answer {
-            Ok(()) => Answer::Accepted,
-            Err(fault) => Answer::Breachable(Breach { fault, witness }),
+            Ok(()) => Ok(Reply::Accepted),
+            Err(fault) => Err(Refusal::Plan(Breach { fault, witness })),
         }
     }
 
     // Performs a call, and gives its answer.
-    pub(crate) fn perform(&mut self, heap: Global, call: Call) -> Result<Answer, AllocError>
+    pub(crate) fn perform(&mut self, call: Call) -> Result<Answer, AllocError>
         ensures { IfOk result (λ a. Performed self.old call a self.new) }
     {
         match call {
-            Call::New => Ok(self.begin()),
+            Call::New => Ok(Ok(self.begin())),
             Call::Add(addition) => self.add(addition),
-            Call::AuthorisedRoles(roles) => Ok(self.authorised_roles(roles)),
-            Call::HeldPermissions(roles) => Ok(self.held_permissions(roles)),
+            Call::AuthorisedRoles(roles) => Ok(Ok(self.authorised_roles(roles))),
+            Call::HeldPermissions(roles) => Ok(Ok(self.held_permissions(roles))),
             Call::Judge => Ok(self.judge()),
-            Call::Fields(text) => fields(heap, text.as_slice()),
+            Call::Fields(text) => fields(self.heap, &text),
         }
     }
 }

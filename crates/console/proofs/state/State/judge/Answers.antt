@@ -12,7 +12,7 @@ returns-in-Ok c =
     let ok : is_ok j.result.answer ≡ _ = ap is_ok c.in-Ok.is in
     record {
       same = same_additions c.args.self.now.log j.new.log (j.auto.log ∙ c.as_mut_slice.ensures.len) c.as_mut_slice.result.now j.ensures.additions c.as_mut_slice.ensures.value;
-      right = j.ensures.promise.enforced ok;
+      right = (refl, j.ensures.promise.enforced ok);
       filled = λ _. j.ensures.promise.filled ok;
       kept = λ no. absurd (no refl);
     }
