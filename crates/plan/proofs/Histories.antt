@@ -6,7 +6,7 @@ use Rattle.std.specs.Result.{result_err}
 use Rattle.std.specs.Option.{option_map}
 use Rattle.std.proofs.lemmas.Bool.{cases_eq}
 use Rattle.std.proofs.lemmas.List.{append-nil, append_assoc, get_or-set_same, get_or-set_other, take-set-le, take_more_set, map-set, get_or-map, set-get_or}
-use Rattle.terms.specs.Sets.{bit, In}
+use Rattle.terms.specs.Sets.{In}
 use Rattle.terms.specs.Lists.{listed}
 use Rattle.plan.specs.Order.{Over, Reflexive, Transitive}
 use Rattle.plan.specs.Authority.{policies_of, constraints_of, policy_count, constraint_count}
@@ -19,7 +19,7 @@ use Rattle.plan.specs.declared.PlanFault.{PlanFault}
 use Rattle.plan.specs.declared.Addition.{Addition}
 use Rattle.plan.specs.declared.Addition.TheVariants as add
 use Rattle.plan.specs.declared.Entry.{Entry}
-use Rattle.terms.proofs.Bits.{in_or_l, in_or_r, in_or, in_one, in_one_only, bit_zero, bit_two}
+use Rattle.terms.proofs.Bits.{in_or_l, in_or_r, in_or, in_one, in_one_only, bit_zero, same_bit}
 
 -- lists joined
 seniors_join : (xs ys : List Addition) → seniors (xs ++ ys) ≡ seniors xs ++ seniors ys
@@ -217,19 +217,13 @@ means_none p alone granted asked bound = record {
   constraints = bound;
 }
 
--- two plans that mean the same give the same answers
-same_bit : (w v s : ℕ) → (In s w → In s v) → (In s v → In s w) → bit w s ≡ bit v s
-same_bit w v s f g = elim (cases_eq (bit w s) 1) [
-  | inl e ↦ e ∙ sym (f e)
-  | inr n ↦ elim (cases_eq (bit v s) 1) [ inl e ↦ absurd (n (g e)) | inr k ↦ omega (arith, bit_two w s, bit_two v s) ]
-]
-
 pub policies_counted : (xs : List Addition) (p : Plan) → Means xs p → policy_count p ≡ length (policies xs)
 policies_counted xs p m = ap length m.policies
 
 pub constraints_counted : (xs : List Addition) (p : Plan) → Means xs p → constraint_count p ≡ length (constraints xs)
 constraints_counted xs p m = ap length m.constraints
 
+-- two plans that mean the same give the same answers
 pub rows_same : (xs : List Addition) (p q : Plan) → Means xs p → Means xs q → (x : Addition) → rows p x ≡ rows q x
 rows_same xs p q m n (add.Senior s j) = ap (λ b. first_of (when (ltb 63 s || ltb 63 j) (refusal 1 []) ∷ when (not (eqb s j) && eqb b 1) (refusal 3 []) ∷ []))
     (same_bit (get_or p.juniors j 0) (get_or q.juniors j 0) s (λ h. n.senior_all j s (m.senior_only j s h)) (λ h. m.senior_all j s (n.senior_only j s h)))

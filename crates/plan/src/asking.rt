@@ -3,17 +3,15 @@ ghost use Rattle.terms.specs.Sets.{In, union};
 ghost use Rattle.plan.specs.Authority.{Senior, Granted, AuthorisedFor, Holds, authorised, held, policies_of, constraints_of, policy_count, policy_at, constraint_count, constraint_at, Satisfies, LowestBroken};
 
 use super::{Constraint, Plan, Policy};
-use terms::sets::{PermissionSet, RoleSet, contains};
+use terms::sets::{Members, PermissionSet, RoleSet};
 
 // The union of the rows whose numbers are in `chosen`.
 fn union_of(rows: &[u64; 64], chosen: u64) -> u64
     ensures { result ≡ union rows.now chosen }
 {
     let mut all = 0;
-    for (i, row) in rows.iter().enumerate() {
-        if contains(chosen, i as u32) {
-            all |= *row;
-        }
+    for number in Members::of(chosen) {
+        all |= rows[number as usize];
     }
     all
 }

@@ -238,9 +238,9 @@ pub without_lowest : (w k : ℕ) → Lowest k w → Difference w (2 ^ k) (bit_an
 without_lowest w k h =
     let none : (j : ℕ) → j < k → bit w j ≡ 0 = λ j l. bit_off w j (λ i. absurd (let g = h.least j i in omega arith)) in
     let gone : (j : ℕ) → In j (2 ^ k) → In j (bit_and w (w - 1)) → ⊥ = λ j i m.
-        let e = in_one_only k j i in
-        let o : In k (w - 1) = subst (λ x. In x (w - 1)) e (in_and w (w - 1) j m).1 in
-        absurd (omega (arith, below_at k w h.member none)) in
+    let e = in_one_only k j i in
+    let o : In k (w - 1) = subst (λ x. In x (w - 1)) e (in_and w (w - 1) j m).1 in
+    absurd (omega (arith, below_at k w h.member none)) in
     record {
       inside = λ j m. (in_and w (w - 1) j m).0;
       other = λ j i. elim (cases_order k j) [

@@ -1,5 +1,4 @@
-use Rattle.std.proofs.Common.{◌≡◌, ◌+◌, ◌≤◌, arith, rules}
-use lib.Count.{ones}
+use Rattle.std.proofs.Common.{rules}
 use Rattle.terms.proofs.Bits.{in_pos, without_lowest}
 use Rattle.terms.proofs.Sizes.{ones_rest}
 use Rattle.terms.proofs.sets.MembersIterator.next.Goals as goal
