@@ -4,7 +4,7 @@ use text::field::{Field, Mark, TextFault};
 use text::header::header_end;
 use text::number::number;
 use text::reader::Reader;
-use text::walk::count_records;
+use text::walk::{Walk, count_records};
 
 // Bytes: those that print as they are, others by their value.
 #[derive(Clone, Copy)]
@@ -68,24 +68,20 @@ pub(crate) struct Fields<'a>(pub(crate) &'a [u8]);
 
 impl fmt::Display for Fields<'_> {
     fn fmt<W: fmt::Write>(&self, f: &mut fmt::Formatter<W>) -> fmt::Result {
-        let mut reader = Reader::new(self.0);
-        let mut ended = true;
-        for _ in 0..u64::MAX {
-            if ended && reader.at_end() {
-                break;
-            }
-            let field = match reader.next_field() {
-                Ok(field) => field,
+        let mut walk = Walk::new(self.0);
+        loop {
+            match walk.next_field() {
+                Ok(Some(field)) => {
+                    let shown = Shown(field);
+                    write!(f, "{shown}")?;
+                }
+                Ok(None) => return Ok(()),
                 Err(fault) => {
                     let fault = Fault(fault);
                     return write!(f, "{fault}");
                 }
-            };
-            let shown = Shown(field);
-            write!(f, "{shown}")?;
-            ended = !matches!(field.mark, Mark::Comma);
+            }
         }
-        Ok(())
     }
 }
 
@@ -96,10 +92,7 @@ pub(crate) struct Pairs<'a>(pub(crate) &'a [u8]);
 impl fmt::Display for Pairs<'_> {
     fn fmt<W: fmt::Write>(&self, f: &mut fmt::Formatter<W>) -> fmt::Result {
         let mut reader = Reader::new(self.0);
-        for _ in 0..u64::MAX {
-            if reader.at_end() {
-                break;
-            }
+        while !reader.at_end() {
             let mut slots = [Field::empty(); 2];
             if let Err(fault) = reader.next_record(&mut slots) {
                 let fault = Fault(fault);
@@ -133,11 +126,14 @@ impl fmt::Display for Count<'_> {
 
 // The number that bytes write with at most so many digits.
 #[derive(Clone, Copy)]
-pub(crate) struct Digits<'a>(pub(crate) &'a [u8], pub(crate) usize);
+pub(crate) struct Digits<'a> {
+    pub(crate) bytes: &'a [u8],
+    pub(crate) limit: usize,
+}
 
 impl fmt::Display for Digits<'_> {
     fn fmt<W: fmt::Write>(&self, f: &mut fmt::Formatter<W>) -> fmt::Result {
-        match number(self.0, self.1) {
+        match number(self.bytes, self.limit) {
             Some(n) => write!(f, "{n}"),
             None => write!(f, "no number"),
         }
@@ -146,11 +142,14 @@ impl fmt::Display for Digits<'_> {
 
 // Where the records begin after this header.
 #[derive(Clone, Copy)]
-pub(crate) struct Start<'a>(pub(crate) &'a [u8], pub(crate) &'a [u8]);
+pub(crate) struct Start<'a> {
+    pub(crate) text: &'a [u8],
+    pub(crate) header: &'a [u8],
+}
 
 impl fmt::Display for Start<'_> {
     fn fmt<W: fmt::Write>(&self, f: &mut fmt::Formatter<W>) -> fmt::Result {
-        match header_end(self.0, self.1) {
+        match header_end(self.text, self.header) {
             Some(place) => write!(f, "{place}"),
             None => write!(f, "another header"),
         }
