@@ -4,7 +4,7 @@ use text::field::{Field, Mark, TextFault};
 use text::header::header_end;
 use text::number::number;
 use text::reader::Reader;
-use text::walk::{Walk, count_records};
+use text::walk::{Walk, WrongRecord, count_records};
 
 // Bytes: those that print as they are, others by their value.
 #[derive(Clone, Copy)]
@@ -13,11 +13,11 @@ pub(crate) struct Bytes<'a>(pub(crate) &'a [u8]);
 impl fmt::Display for Bytes<'_> {
     fn fmt<W: fmt::Write>(&self, f: &mut fmt::Formatter<W>) -> fmt::Result {
         for b in self.0 {
-            if *b < 32 || *b > 126 {
-                write!(f, "\\x{b:02x}")?;
-            } else {
+            if matches!(*b, b' '..=b'~') {
                 let c = char::from(*b);
                 write!(f, "{c}")?;
+            } else {
+                write!(f, "\\x{b:02x}")?;
             }
         }
         Ok(())
@@ -30,15 +30,20 @@ struct Shown<'a>(Field<'a>);
 
 impl fmt::Display for Shown<'_> {
     fn fmt<W: fmt::Write>(&self, f: &mut fmt::Formatter<W>) -> fmt::Result {
-        let start = self.0.start;
-        let end = self.0.end;
-        let bytes = Bytes(self.0.bytes);
-        if self.0.quoted {
+        let Field {
+            bytes,
+            start,
+            end,
+            quoted,
+            mark,
+        } = self.0;
+        let bytes = Bytes(bytes);
+        if quoted {
             write!(f, "[{start}-{end} \"{bytes}\"]")?;
         } else {
             write!(f, "[{start}-{end} {bytes}]")?;
         }
-        match self.0.mark {
+        match mark {
             Mark::Comma => write!(f, ","),
             Mark::Line => write!(f, ";"),
             Mark::End => write!(f, "."),
@@ -115,10 +120,9 @@ impl fmt::Display for Count<'_> {
     fn fmt<W: fmt::Write>(&self, f: &mut fmt::Formatter<W>) -> fmt::Result {
         match count_records(self.0) {
             Ok(count) => write!(f, "{count} records"),
-            Err(wrong) => {
-                let at = wrong.number;
-                let fault = Fault(wrong.fault);
-                write!(f, "record {at}: {fault}")
+            Err(WrongRecord { number, fault }) => {
+                let fault = Fault(fault);
+                write!(f, "record {number}: {fault}")
             }
         }
     }
@@ -126,14 +130,11 @@ impl fmt::Display for Count<'_> {
 
 // The number that bytes write with at most so many digits.
 #[derive(Clone, Copy)]
-pub(crate) struct Digits<'a> {
-    pub(crate) bytes: &'a [u8],
-    pub(crate) limit: usize,
-}
+pub(crate) struct Digits<'a>(pub(crate) &'a [u8], pub(crate) usize);
 
 impl fmt::Display for Digits<'_> {
     fn fmt<W: fmt::Write>(&self, f: &mut fmt::Formatter<W>) -> fmt::Result {
-        match number(self.bytes, self.limit) {
+        match number(self.0, self.1) {
             Some(n) => write!(f, "{n}"),
             None => write!(f, "no number"),
         }
@@ -142,14 +143,11 @@ impl fmt::Display for Digits<'_> {
 
 // Where the records begin after this header.
 #[derive(Clone, Copy)]
-pub(crate) struct Start<'a> {
-    pub(crate) text: &'a [u8],
-    pub(crate) header: &'a [u8],
-}
+pub(crate) struct Start<'a>(pub(crate) &'a [u8], pub(crate) &'a [u8]);
 
 impl fmt::Display for Start<'_> {
     fn fmt<W: fmt::Write>(&self, f: &mut fmt::Formatter<W>) -> fmt::Result {
-        match header_end(self.text, self.header) {
+        match header_end(self.0, self.1) {
             Some(place) => write!(f, "{place}"),
             None => write!(f, "another header"),
         }
