@@ -1,125 +1,54 @@
 // Compares what the reader and the writer of texts do with what is expected of them, vector after vector.
 #![tactic(auto)]
 
-use shown::{Count, Digits, Fields, Pairs, Start};
-use std::io;
+use std::{fmt, io};
+use tally::Tally;
+use vector::Vector;
 
 mod numbers;
 mod reading;
 mod shown;
+mod vector;
 mod writing;
 
-// How many vectors came out as expected.
-#[derive(Drop)]
-struct Tally {
-    right: u32,
-    wrong: u32,
-}
-
-// The line of a vector that came out as expected.
-fn print_right(rt: &HostRuntime, what: &str, came: &String) -> io::Result<()> {
-    println!(rt; "{what}: {came} right")
-}
-
-// The line of any other.
-fn print_wrong(rt: &HostRuntime, what: &str, came: &String, expected: &str) -> io::Result<()> {
+// Prints a vector's name and what came out, and counts it.
+fn note<T: fmt::Display>(rt: &HostRuntime, tally: &mut Tally, v: &Vector<T>) -> io::Result<()> {
+    let what = v.what;
+    let expected = v.expected;
+    let shown = &v.shown;
+    let came = format!(in rt.alloc(); "{shown}")?;
+    let same = came.as_str() == expected;
+    tally.note(same);
+    if same {
+        return println!(rt; "{what}: {came} right");
+    }
     println!(rt; "{what}: {came} WRONG")?;
     println!(rt; "expected: {expected}")
 }
 
-impl Tally {
-    // Prints a vector's name and what came out, and counts it.
-    fn note(
-        &mut self,
-        rt: &HostRuntime,
-        what: &str,
-        came: &String,
-        expected: &str,
-    ) -> io::Result<()> {
-        if came.as_str() == expected {
-            self.right = self.right.saturating_add(1);
-            print_right(rt, what, came)
-        } else {
-            self.wrong = self.wrong.saturating_add(1);
-            print_wrong(rt, what, came, expected)
-        }
-    }
-}
-
-// The fields of each text.
-fn note_fields(rt: &HostRuntime, tally: &mut Tally, vectors: &[reading::Vector]) -> io::Result<()> {
-    for v in vectors {
-        let fields = Fields(v.text);
-        let came = format!(in rt.alloc(); "{fields}")?;
-        tally.note(rt, v.what, &came, v.expected)?;
-    }
-    Ok(())
-}
-
-// Texts of two columns, and counts of records.
-fn note_records(rt: &HostRuntime, tally: &mut Tally) -> io::Result<()> {
-    for v in reading::PAIRS.iter() {
-        let pairs = Pairs(v.text);
-        let came = format!(in rt.alloc(); "{pairs}")?;
-        tally.note(rt, v.what, &came, v.expected)?;
-    }
-    for v in reading::COUNTS.iter() {
-        let count = Count(v.text);
-        let came = format!(in rt.alloc(); "{count}")?;
-        tally.note(rt, v.what, &came, v.expected)?;
-    }
-    Ok(())
-}
-
-fn note_numbers(
+fn note_all<T: fmt::Display>(
     rt: &HostRuntime,
     tally: &mut Tally,
-    vectors: &[numbers::NumberVector],
+    vectors: &[Vector<T>],
 ) -> io::Result<()> {
     for v in vectors {
-        let digits = Digits(v.bytes, v.limit);
-        let came = format!(in rt.alloc(); "{digits}")?;
-        tally.note(rt, v.what, &came, v.expected)?;
-    }
-    Ok(())
-}
-
-fn note_headers(rt: &HostRuntime, tally: &mut Tally) -> io::Result<()> {
-    for v in numbers::HEADERS.iter() {
-        let start = Start(v.text, v.header);
-        let came = format!(in rt.alloc(); "{start}")?;
-        tally.note(rt, v.what, &came, v.expected)?;
-    }
-    Ok(())
-}
-
-// What is written.
-fn note_writes(rt: &HostRuntime, tally: &mut Tally) -> io::Result<()> {
-    for v in writing::TABLES.iter() {
-        let came = writing::table_of(rt.alloc(), v)?;
-        tally.note(rt, v.what, &came, v.expected)?;
-    }
-    for v in writing::LINES.iter() {
-        let came = writing::line_of(rt.alloc(), v)?;
-        tally.note(rt, v.what, &came, v.expected)?;
-    }
-    for v in writing::HEADINGS.iter() {
-        let came = writing::heading_of(rt.alloc(), v)?;
-        tally.note(rt, v.what, &came, v.expected)?;
+        note(rt, tally, v)?;
     }
     Ok(())
 }
 
 fn main(rt: HostRuntime) -> io::Result<()> {
-    let mut tally = Tally { right: 0, wrong: 0 };
-    note_fields(&rt, &mut tally, &reading::RFC)?;
-    note_fields(&rt, &mut tally, &reading::RIGHT)?;
-    note_fields(&rt, &mut tally, &reading::WRONG)?;
-    note_records(&rt, &mut tally)?;
-    note_numbers(&rt, &mut tally, &numbers::NUMBERS)?;
-    note_numbers(&rt, &mut tally, &numbers::LONG_NUMBERS)?;
-    note_headers(&rt, &mut tally)?;
-    note_writes(&rt, &mut tally)?;
-    let Tally { right, wrong } = tally;
-    println!(rt; "{right} right, {wrong} wrong")
+    let mut tally = Tally::new();
+    note_all(&rt, &mut tally, &reading::RFC)?;
+    note_all(&rt, &mut tally, &reading::RIGHT)?;
+    note_all(&rt, &mut tally, &reading::WRONG)?;
+    note_all(&rt, &mut tally, &reading::PAIRS)?;
+    note_all(&rt, &mut tally, &reading::COUNTS)?;
+    note_all(&rt, &mut tally, &numbers::NUMBERS)?;
+    note_all(&rt, &mut tally, &numbers::LONG_NUMBERS)?;
+    note_all(&rt, &mut tally, &numbers::HEADERS)?;
+    note_all(&rt, &mut tally, &writing::TABLES)?;
+    note_all(&rt, &mut tally, &writing::LINES)?;
+    note_all(&rt, &mut tally, &writing::HEADINGS)?;
+    println!(&rt; "{tally}")
 }

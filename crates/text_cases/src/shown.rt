@@ -4,7 +4,7 @@ use text::field::{Field, Mark, TextFault};
 use text::header::header_end;
 use text::number::number;
 use text::reader::Reader;
-use text::walk::count_records;
+use text::walk::{Walk, WrongRecord, count_records};
 
 // Bytes: those that print as they are, others by their value.
 #[derive(Clone, Copy)]
@@ -13,11 +13,11 @@ pub(crate) struct Bytes<'a>(pub(crate) &'a [u8]);
 impl fmt::Display for Bytes<'_> {
     fn fmt<W: fmt::Write>(&self, f: &mut fmt::Formatter<W>) -> fmt::Result {
         for b in self.0 {
-            if *b < 32 || *b > 126 {
-                write!(f, "\\x{b:02x}")?;
-            } else {
+            if matches!(*b, b' '..=b'~') {
                 let c = char::from(*b);
                 write!(f, "{c}")?;
+            } else {
+                write!(f, "\\x{b:02x}")?;
             }
         }
         Ok(())
@@ -30,15 +30,20 @@ struct Shown<'a>(Field<'a>);
 
 impl fmt::Display for Shown<'_> {
     fn fmt<W: fmt::Write>(&self, f: &mut fmt::Formatter<W>) -> fmt::Result {
-        let start = self.0.start;
-        let end = self.0.end;
-        let bytes = Bytes(self.0.bytes);
-        if self.0.quoted {
+        let Field {
+            bytes,
+            start,
+            end,
+            quoted,
+            mark,
+        } = self.0;
+        let bytes = Bytes(bytes);
+        if quoted {
             write!(f, "[{start}-{end} \"{bytes}\"]")?;
         } else {
             write!(f, "[{start}-{end} {bytes}]")?;
         }
-        match self.0.mark {
+        match mark {
             Mark::Comma => write!(f, ","),
             Mark::Line => write!(f, ";"),
             Mark::End => write!(f, "."),
@@ -68,24 +73,20 @@ pub(crate) struct Fields<'a>(pub(crate) &'a [u8]);
 
 impl fmt::Display for Fields<'_> {
     fn fmt<W: fmt::Write>(&self, f: &mut fmt::Formatter<W>) -> fmt::Result {
-        let mut reader = Reader::new(self.0);
-        let mut ended = true;
-        for _ in 0..u64::MAX {
-            if ended && reader.at_end() {
-                break;
-            }
-            let field = match reader.next_field() {
-                Ok(field) => field,
+        let mut walk = Walk::new(self.0);
+        loop {
+            match walk.next_field() {
+                Ok(Some(field)) => {
+                    let shown = Shown(field);
+                    write!(f, "{shown}")?;
+                }
+                Ok(None) => return Ok(()),
                 Err(fault) => {
                     let fault = Fault(fault);
                     return write!(f, "{fault}");
                 }
-            };
-            let shown = Shown(field);
-            write!(f, "{shown}")?;
-            ended = !matches!(field.mark, Mark::Comma);
+            }
         }
-        Ok(())
     }
 }
 
@@ -96,10 +97,7 @@ pub(crate) struct Pairs<'a>(pub(crate) &'a [u8]);
 impl fmt::Display for Pairs<'_> {
     fn fmt<W: fmt::Write>(&self, f: &mut fmt::Formatter<W>) -> fmt::Result {
         let mut reader = Reader::new(self.0);
-        for _ in 0..u64::MAX {
-            if reader.at_end() {
-                break;
-            }
+        while !reader.at_end() {
             let mut slots = [Field::empty(); 2];
             if let Err(fault) = reader.next_record(&mut slots) {
                 let fault = Fault(fault);
@@ -122,10 +120,9 @@ impl fmt::Display for Count<'_> {
     fn fmt<W: fmt::Write>(&self, f: &mut fmt::Formatter<W>) -> fmt::Result {
         match count_records(self.0) {
             Ok(count) => write!(f, "{count} records"),
-            Err(wrong) => {
-                let at = wrong.number;
-                let fault = Fault(wrong.fault);
-                write!(f, "record {at}: {fault}")
+            Err(WrongRecord { number, fault }) => {
+                let fault = Fault(fault);
+                write!(f, "record {number}: {fault}")
             }
         }
     }

@@ -1,235 +1,187 @@
 // What is written into a buffer of full stops: the place after it and the whole buffer.
 use crate::shown::Bytes;
-use std::alloc::{AllocError, Global};
+use crate::vector::Vector;
+use std::fmt;
 use text_out::{WriteFault, put_header, put_line, write_table};
 
-// A table with two columns, written into a buffer of so many bytes.
-#[derive(Drop)]
-pub(crate) struct TableVector {
-    pub(crate) what: &'static str,
-    pub(crate) room: usize,
-    pub(crate) header: &'static [u8],
-    pub(crate) records: &'static [[u64; 2]],
-    pub(crate) expected: &'static str,
+// The longest buffer of a vector; a longer one would be shown cut, and come out wrong.
+const LONGEST: usize = 32;
+
+// What is stored in a buffer.
+pub(crate) trait Store {
+    // Stores it, and answers the place after it.
+    fn store(&self, buffer: &mut [u8]) -> Result<usize, WriteFault>;
 }
 
-pub(crate) static TABLES: [TableVector; 12] = [
-    TableVector {
+// A buffer of so many full stops, and what is stored in it.
+#[derive(Drop)]
+pub(crate) struct Stored<T>(usize, T);
+
+// The place after it, and the buffer.
+impl<T: Store> fmt::Display for Stored<T> {
+    fn fmt<W: fmt::Write>(&self, f: &mut fmt::Formatter<W>) -> fmt::Result {
+        let mut stops = [b'.'; LONGEST];
+        let room = self.0.min(LONGEST);
+        let buffer = &mut stops[..room];
+        let answer = self.1.store(buffer);
+        let bytes = Bytes(buffer);
+        match answer {
+            Ok(end) => write!(f, "{end}: {bytes}"),
+            Err(WriteFault::TooShort) => write!(f, "TooShort: {bytes}"),
+        }
+    }
+}
+
+// A table with two columns: its header and its records.
+#[derive(Drop)]
+pub(crate) struct Table(&'static [u8], &'static [[u64; 2]]);
+
+impl Store for Table {
+    fn store(&self, buffer: &mut [u8]) -> Result<usize, WriteFault> {
+        write_table(buffer, self.0, self.1)
+    }
+}
+
+// A place, and the numbers of the line there.
+#[derive(Drop)]
+pub(crate) struct Line(usize, &'static [u64]);
+
+impl Store for Line {
+    fn store(&self, buffer: &mut [u8]) -> Result<usize, WriteFault> {
+        put_line(buffer, self.0, self.1)
+    }
+}
+
+// A place, and the header there.
+#[derive(Drop)]
+pub(crate) struct Heading(usize, &'static [u8]);
+
+impl Store for Heading {
+    fn store(&self, buffer: &mut [u8]) -> Result<usize, WriteFault> {
+        put_header(buffer, self.0, self.1)
+    }
+}
+
+pub(crate) static TABLES: [Vector<Stored<Table>>; 12] = [
+    Vector {
         what: "a table in a buffer exactly long enough",
-        room: 17,
-        header: b"user,role",
-        records: &[[12, 4]],
+        shown: Stored(17, Table(b"user,role", &[[12, 4]])),
         expected: "17: user,role\\x0d\\x0a12,4\\x0d\\x0a",
     },
-    TableVector {
+    Vector {
         what: "one byte short",
-        room: 16,
-        header: b"user,role",
-        records: &[[12, 4]],
+        shown: Stored(16, Table(b"user,role", &[[12, 4]])),
         expected: "TooShort: ................",
     },
-    TableVector {
+    Vector {
         what: "three bytes to spare",
-        room: 20,
-        header: b"user,role",
-        records: &[[12, 4]],
+        shown: Stored(20, Table(b"user,role", &[[12, 4]])),
         expected: "17: user,role\\x0d\\x0a12,4\\x0d\\x0a...",
     },
-    TableVector {
+    Vector {
         what: "a buffer of length 0",
-        room: 0,
-        header: b"user,role",
-        records: &[[12, 4]],
+        shown: Stored(0, Table(b"user,role", &[[12, 4]])),
         expected: "TooShort: ",
     },
-    TableVector {
+    Vector {
         what: "a header without records",
-        room: 12,
-        header: b"user,role",
-        records: &[],
+        shown: Stored(12, Table(b"user,role", &[])),
         expected: "11: user,role\\x0d\\x0a.",
     },
-    TableVector {
+    Vector {
         what: "a header without records, one byte short",
-        room: 10,
-        header: b"user,role",
-        records: &[],
+        shown: Stored(10, Table(b"user,role", &[])),
         expected: "TooShort: ..........",
     },
-    TableVector {
+    Vector {
         what: "an empty header",
-        room: 2,
-        header: b"",
-        records: &[],
+        shown: Stored(2, Table(b"", &[])),
         expected: "2: \\x0d\\x0a",
     },
-    TableVector {
+    Vector {
         what: "an empty header and one byte",
-        room: 1,
-        header: b"",
-        records: &[],
+        shown: Stored(1, Table(b"", &[])),
         expected: "TooShort: .",
     },
-    TableVector {
+    Vector {
         what: "three records in their order",
-        room: 24,
-        header: b"u,r",
-        records: &[[9, 10], [0, 0], [99, 100]],
+        shown: Stored(24, Table(b"u,r", &[[9, 10], [0, 0], [99, 100]])),
         expected: "24: u,r\\x0d\\x0a9,10\\x0d\\x0a0,0\\x0d\\x0a99,100\\x0d\\x0a",
     },
-    TableVector {
+    Vector {
         what: "a record twice",
-        room: 16,
-        header: b"u,r",
-        records: &[[1, 2], [1, 2]],
+        shown: Stored(16, Table(b"u,r", &[[1, 2], [1, 2]])),
         expected: "15: u,r\\x0d\\x0a1,2\\x0d\\x0a1,2\\x0d\\x0a.",
     },
-    TableVector {
+    Vector {
         what: "0 and the largest number",
-        room: 29,
-        header: b"u,r",
-        records: &[[0, 18446744073709551615]],
+        shown: Stored(29, Table(b"u,r", &[[0, 18446744073709551615]])),
         expected: "29: u,r\\x0d\\x0a0,18446744073709551615\\x0d\\x0a",
     },
-    TableVector {
+    Vector {
         what: "the same, one byte short",
-        room: 28,
-        header: b"u,r",
-        records: &[[0, 18446744073709551615]],
+        shown: Stored(28, Table(b"u,r", &[[0, 18446744073709551615]])),
         expected: "TooShort: ............................",
     },
 ];
 
-// One line, stored at a place of a buffer of so many bytes.
-#[derive(Drop)]
-pub(crate) struct LineVector {
-    pub(crate) what: &'static str,
-    pub(crate) room: usize,
-    pub(crate) at: usize,
-    pub(crate) numbers: &'static [u64],
-    pub(crate) expected: &'static str,
-}
-
-pub(crate) static LINES: [LineVector; 8] = [
-    LineVector {
+pub(crate) static LINES: [Vector<Stored<Line>>; 8] = [
+    Vector {
         what: "a line up to the buffer's end",
-        room: 13,
-        at: 3,
-        numbers: &[7, 10, 100],
+        shown: Stored(13, Line(3, &[7, 10, 100])),
         expected: "13: ...7,10,100\\x0d\\x0a",
     },
-    LineVector {
+    Vector {
         what: "a line with bytes after it",
-        room: 15,
-        at: 3,
-        numbers: &[7, 10, 100],
+        shown: Stored(15, Line(3, &[7, 10, 100])),
         expected: "13: ...7,10,100\\x0d\\x0a..",
     },
-    LineVector {
+    Vector {
         what: "a line for which a byte is wanting",
-        room: 12,
-        at: 3,
-        numbers: &[7, 10, 100],
+        shown: Stored(12, Line(3, &[7, 10, 100])),
         expected: "TooShort: ............",
     },
-    LineVector {
+    Vector {
         what: "a line of one number",
-        room: 6,
-        at: 0,
-        numbers: &[1000],
+        shown: Stored(6, Line(0, &[1000])),
         expected: "6: 1000\\x0d\\x0a",
     },
-    LineVector {
+    Vector {
         what: "a line without numbers",
-        room: 3,
-        at: 0,
-        numbers: &[],
+        shown: Stored(3, Line(0, &[])),
         expected: "2: \\x0d\\x0a.",
     },
-    LineVector {
+    Vector {
         what: "a line at the buffer's end",
-        room: 4,
-        at: 4,
-        numbers: &[1],
+        shown: Stored(4, Line(4, &[1])),
         expected: "TooShort: ....",
     },
-    LineVector {
+    Vector {
         what: "a line past the buffer's end",
-        room: 4,
-        at: 5,
-        numbers: &[],
+        shown: Stored(4, Line(5, &[])),
         expected: "TooShort: ....",
     },
-    LineVector {
+    Vector {
         what: "a line at the largest place",
-        room: 4,
-        at: usize::MAX,
-        numbers: &[1],
+        shown: Stored(4, Line(usize::MAX, &[1])),
         expected: "TooShort: ....",
     },
 ];
 
-// A header, stored at a place of a buffer of so many bytes.
-#[derive(Drop)]
-pub(crate) struct HeadingVector {
-    pub(crate) what: &'static str,
-    pub(crate) room: usize,
-    pub(crate) at: usize,
-    pub(crate) header: &'static [u8],
-    pub(crate) expected: &'static str,
-}
-
-pub(crate) static HEADINGS: [HeadingVector; 3] = [
-    HeadingVector {
+pub(crate) static HEADINGS: [Vector<Stored<Heading>>; 3] = [
+    Vector {
         what: "a header at place 2",
-        room: 6,
-        at: 2,
-        header: b"ab",
+        shown: Stored(6, Heading(2, b"ab")),
         expected: "6: ..ab\\x0d\\x0a",
     },
-    HeadingVector {
+    Vector {
         what: "a header with a byte after it",
-        room: 7,
-        at: 2,
-        header: b"ab",
+        shown: Stored(7, Heading(2, b"ab")),
         expected: "6: ..ab\\x0d\\x0a.",
     },
-    HeadingVector {
+    Vector {
         what: "a header for which a byte is wanting",
-        room: 5,
-        at: 2,
-        header: b"ab",
+        shown: Stored(5, Heading(2, b"ab")),
         expected: "TooShort: .....",
     },
 ];
-
-// What came out, and the buffer.
-fn told(
-    heap: Global,
-    answer: Result<usize, WriteFault>,
-    buffer: &[u8],
-) -> Result<String, AllocError> {
-    let bytes = Bytes(buffer);
-    match answer {
-        Ok(end) => format!(in heap; "{end}: {bytes}"),
-        Err(WriteFault::TooShort) => format!(in heap; "TooShort: {bytes}"),
-    }
-}
-
-pub(crate) fn table_of(heap: Global, v: &TableVector) -> Result<String, AllocError> {
-    let mut buffer = vec![in heap; b'.'; v.room]?;
-    let answer = write_table(buffer.as_mut_slice(), v.header, v.records);
-    told(heap, answer, buffer.as_slice())
-}
-
-pub(crate) fn line_of(heap: Global, v: &LineVector) -> Result<String, AllocError> {
-    let mut buffer = vec![in heap; b'.'; v.room]?;
-    let answer = put_line(buffer.as_mut_slice(), v.at, v.numbers);
-    told(heap, answer, buffer.as_slice())
-}
-
-pub(crate) fn heading_of(heap: Global, v: &HeadingVector) -> Result<String, AllocError> {
-    let mut buffer = vec![in heap; b'.'; v.room]?;
-    let answer = put_header(buffer.as_mut_slice(), v.at, v.header);
-    told(heap, answer, buffer.as_slice())
-}

@@ -18,8 +18,7 @@ impl Page<'_> {
         ensures { Appended self.old bytes.now self.new }
     {
         let end = self.at + bytes.len();
-        let buffer = &mut *self.buffer;
-        buffer[self.at..end].copy_from_slice(bytes);
+        self.buffer[self.at..end].copy_from_slice(bytes);
         self.at = end;
     }
 
