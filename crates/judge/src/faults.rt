@@ -1,13 +1,12 @@
-ghost use Rattle.std.specs.Prelude.{◌≡◌};
 ghost use Rattle.judge.specs.Judging.{shown};
 
 use super::JudgeFault;
+use terms::refusals::Fault;
 
-impl JudgeFault {
-    // The refusal's number.
-    pub fn number(&self) -> u32
-        ensures { result ≡ (shown self.now).number }
-    {
+impl Fault for JudgeFault {
+    ghost shown = { shown };
+
+    fn number(&self) -> u32 {
         match self {
             JudgeFault::Unenforced => 7,
         }
