@@ -1,9 +1,8 @@
 -- The bounds that limits set on what a user can hold. Assumes nothing.
-use Rattle.std.proofs.Common.{◌≡◌, ℕ, ◌+◌, ◌-◌, ◌*◌, ◌<◌, ◌≤◌, ◌≢◌, ◌⊎◌, List, length, get_or, set, sym, subst, inl, inr, le_trans, mul-le-mul_right, arith, below_more}
+use Rattle.std.proofs.Common.{◌≡◌, ℕ, ◌+◌, ◌-◌, ◌*◌, ◌<◌, ◌≤◌, ◌⊎◌, get_or, sym, subst, inl, inr, le_trans, mul-le-mul_right, arith}
 use lib.Bits.{bit_and, bit_or}
 use lib.Count.{ones}
-use Rattle.std.proofs.lemmas.List.{get_or-set_same, get_or-set_other}
-use Rattle.terms.specs.Sets.{In, Within}
+use Rattle.terms.specs.Sets.{In, Within, Difference}
 use Rattle.terms.proofs.Bits.{in_and, in_both, in_or, cut}
 use Rattle.terms.proofs.Unions.{union_in, union_of}
 use Rattle.terms.proofs.Sizes.{ones_none, ones_mono, ones_apart, ones_either, ones_rows}
@@ -39,7 +38,7 @@ module _ (p : Plan) (word wanted w : ℕ) (h : Holder p word wanted w) where
       (λ k j l. o.apart k (in_and old r k j).0 l) in
       omega (arith, h.satisfies i b, sum)
 
-  pub fresh_holds : (u q g : ℕ) → Within q wanted → ((k : ℕ) → In k q → In k (held p word) → ⊥)
+  fresh_holds : (u q g : ℕ) → Within q wanted → ((k : ℕ) → In k q → In k (held p word) → ⊥)
       → ((a k : ℕ) → In k q → In k (get_or p.grants a 0) → In a u)
       → ((a : ℕ) → ones (bit_and (get_or p.grants a 0) q) ≤ g)
       → ones q ≤ ones (fresh (authorised p w) u (authorised p word)) * g
@@ -56,9 +55,19 @@ module _ (p : Plan) (word wanted w : ℕ) (h : Holder p word wanted w) where
       ])
       v.2)
 
-  pub fresh_bound : (s u q g : ℕ) → ones (fresh (authorised p w) u (authorised p word)) ≤ s
-      → ones q ≤ ones (fresh (authorised p w) u (authorised p word)) * g → ones q ≤ s * g
-  fresh_bound s u q g a b = le_trans b (mul-le-mul_right g a)
+  -- `here` is due and granted to the named roles alone: it is no more than the spare ones can bring
+  pub fresh_bound : (roles spare due apart here each : ℕ) {g : ℕ} → Difference wanted g due → g ≡ held p word → Difference due apart here
+      → ((a k : ℕ) → Granted p a k → In a roles ⊎ In k apart)
+      → ((a : ℕ) → ones (bit_and (get_or p.grants a 0) due) ≤ each)
+      → ones (fresh (authorised p w) roles (authorised p word)) ≤ spare → ones here ≤ spare * each
+  fresh_bound roles spare due apart here each old is left cover most few = le_trans (fresh_holds roles here each
+      (λ k j. old.inside k (left.inside k j))
+      (λ k j l. old.apart k (subst (In k) (sym is) l) (left.inside k j))
+      (λ a k j g. elim (cover a k g) [ inl x ↦ x | inr y ↦ absurd (left.apart k y j) ])
+      (λ a. le_trans (ones_mono (bit_and (get_or p.grants a 0) here) (bit_and (get_or p.grants a 0) due)
+      (λ k j. let x = in_and (get_or p.grants a 0) here k j in in_both (get_or p.grants a 0) due k x.0 (left.inside k x.1)))
+      (most a)))
+      (mul-le-mul_right each few)
 
 module _ (p : Plan) (word wanted i : ℕ) (d : Constraint) (low : i < constraint_count p) (same : d ≡ constraint_at p i) where
   -- the room that constraint i leaves
@@ -72,15 +81,3 @@ module _ (p : Plan) (word wanted i : ℕ) (d : Constraint) (low : i < constraint
       → (w : ℕ) → Holder p word wanted w → ones (fresh (authorised p w) (bit_or roles d.roles) (authorised p word)) ≤ spare + slack
   named_more roles spare slack e right w h = subst (λ (x : Constraint). ones (fresh (authorised p w) (bit_or roles x.roles) (authorised p word)) ≤ spare + slack) (sym same)
       (omega (arith, room slack e, fresh_more (authorised p w) roles (constraint_at p i).roles (authorised p word), fresh_limit p word wanted w h i low, right w h))
-
--- one constraint more in the table of what is granted elsewhere
-module _ (p : Plan) (all : List ℕ) (i v : ℕ) (d : Constraint) (len : length all ≡ 64) (low : i < 64) (same : d ≡ constraint_at p i) where
-  pub outside_more : ((j : ℕ) → j < i → (a k : ℕ) → Granted p a k → In a (constraint_at p j).roles ⊎ In k (get_or all j 0))
-      → ((a k : ℕ) → Granted p a k → In a d.roles ⊎ In k v)
-      → (j : ℕ) → j < i + 1 → (a k : ℕ) → Granted p a k → In a (constraint_at p j).roles ⊎ In k (get_or (set all i v) j 0)
-  outside_more old new = below_more (λ j. (a k : ℕ) → Granted p a k → In a (constraint_at p j).roles ⊎ In k (get_or (set all i v) j 0)) i
-      (λ j l a k h. let ne : j ≢ i = omega arith in elim (old j l a k h) [ inl x ↦ inl x | inr y ↦ inr (subst (In k) (sym (get_or-set_other all i j v 0 ne)) y) ])
-      (λ a k h. elim (new a k h) [
-        | inl x ↦ inl (subst (λ (e : Constraint). In a e.roles) same x)
-        | inr y ↦ inr (subst (In k) (sym (get_or-set_same all i v 0 (omega arith))) y)
-      ])

@@ -1,5 +1,5 @@
 -- The steps of the search for one user. Assumes nothing.
-use Rattle.std.proofs.Common.{◌≡◌, ℕ, ◌^◌, ◌<◌, ◌≤◌, length, get_or, Some, None, Option, subst, inl, inr, arith, MatchOption}
+use Rattle.std.proofs.Common.{◌≡◌, ◌↔◌, ℕ, ◌^◌, ◌<◌, ◌≤◌, length, get_or, Some, None, Option, subst, inl, inr, arith, MatchOption}
 use lib.Bits.{bit_and, bit_or}
 use lib.Count.{ones}
 use Rattle.std.proofs.lemmas.List.{get_or_past}
@@ -92,7 +92,7 @@ module _ (p : Plan) where
   pub from_none : (wanted w : ℕ) → HeldWith p wanted w → Holder p 0 wanted w
   from_none wanted w h = record { satisfies = h.satisfies; above = λ k i. let v = union_of p.juniors 0 k i in none_in v.0 v.1; holds = h.holds }
 
-  pub answer_from_none : (wanted : ℕ) (o : Option ℕ) → MatchOption o ((w : ℕ) → Holder p 0 wanted w → ⊥) (λ w. Holder p 0 wanted w)
+  pub answer_from_none : (wanted : ℕ) (Fit : ℕ → Type 0) → ((w : ℕ) → Fit w ↔ Holder p 0 wanted w) → (o : Option ℕ) → MatchOption o ((w : ℕ) → Fit w → ⊥) Fit
       → MatchOption o ((w : ℕ) → HeldWith p wanted w → ⊥) (λ w. HeldWith p wanted w)
-  answer_from_none wanted None h = λ w k. h w (from_none wanted w k)
-  answer_from_none wanted (Some w) h = record { satisfies = h.satisfies; holds = h.holds }
+  answer_from_none wanted Fit e None h = λ w k. h w ((e w).1 (from_none wanted w k))
+  answer_from_none wanted Fit e (Some w) h = let g = (e w).0 h in record { satisfies = g.satisfies; holds = g.holds }

@@ -1,2 +1,4 @@
 pub mod Holders
 pub mod Bounds
+pub mod Made
+pub mod Items

@@ -1,113 +1,89 @@
-// Bounds on what one user can come to hold. Each is sound; which constraints are looked at is free.
-ghost use Rattle.std.specs.Prelude.{◌≡◌, ℕ, ◌+◌, ◌≤◌, true, bit_and, count_ones, slice_index};
-ghost use Rattle.plan.specs.Authority.{authorised};
-ghost use Rattle.holding.specs.Tables.{Outside};
-ghost use Rattle.holding.specs.Search.{Holder, NamedRight};
+// Bounds on what the user can come to hold. Each is sound; which constraints are looked at is free.
+ghost use Rattle.std.specs.Prelude.{◌≡◌, ℕ, ◌+◌, ◌-◌, ◌≤◌, true, bit_and, count_ones, slice_index};
+ghost use Rattle.holding.specs.Search.{Nobody, NamedRight};
 
-use super::Named;
 use super::surveying::elsewhere;
-use plan::Plan;
+use super::{Named, Sought};
+use plan::{Constraint, Plan};
 use terms::sets::{PermissionSet, RoleSet, difference, with_member};
 
 // The most permissions of the set that are granted to one role.
 fn most(plan: &Plan, wanted: PermissionSet) -> u32
     ensures { (a : ℕ) → count_ones (bit_and (slice_index plan.now.grants a) wanted) ≤ result }
 {
-    let mut best: u32 = 0;
-    for a in 0u32..64 {
-        let n = (plan.granted(a) & wanted).count_ones();
-        if best < n {
-            best = n;
-        }
-    }
-    best
-}
-
-// Whether some limit leaves a user with the roles `word` too few roles to come to hold `wanted`.
-pub(crate) fn beyond(
-    plan: &Plan,
-    outside: &[PermissionSet; 64],
-    word: RoleSet,
-    wanted: PermissionSet,
-) -> bool
-    requires { Outside plan.now outside.now }
-    ensures { result ≡ true → (w : ℕ) → Holder plan.now word wanted w → ⊥ }
-{
-    let all = plan.authorised(word);
-    let open = difference(wanted, plan.held(word));
-    let each = most(plan, open);
-    for i in 0..plan.constraint_count() {
-        if let Some(c) = plan.constraint_at(i) {
-            let here = difference(open, outside[i]);
-            let slack = c
-                .limit
-                .saturating_sub(1)
-                .saturating_sub((all & c.roles).count_ones());
-            if here.count_ones() as u64 > slack as u64 * each as u64 {
-                return true;
-            }
-        }
-    }
-    false
+    (0u32..64)
+        .map(|a| (plan.granted(a) & wanted).count_ones())
+        .max()
+        .unwrap_or(0)
 }
 
 // The roles that are granted some of the set.
 fn grantors(plan: &Plan, wanted: PermissionSet) -> RoleSet {
-    let mut roles: u64 = 0;
-    for a in 0u32..64 {
-        if plan.granted(a) & wanted > 0 {
-            roles = with_member(roles, a);
-        }
-    }
-    roles
+    (0u32..64)
+        .filter(|a| plan.granted(*a) & wanted > 0)
+        .fold(0, |roles, a| with_member(roles, a))
 }
 
-// One pass over the constraints: takes each of which more useful roles are not yet named than `times` its room.
-fn name_more(
-    plan: &Plan,
-    word: RoleSet,
-    wanted: PermissionSet,
-    useful: RoleSet,
-    times: u32,
-    before: Named,
-) -> Named
-    requires right { NamedRight plan.now word wanted before }
-    requires small { before.spare ≤ 65536 }
-    ensures right { NamedRight plan.now word wanted result }
-    ensures small { result.spare ≤ before.spare + 4096 }
-{
-    let all = plan.authorised(word);
-    let mut roles = before.roles;
-    let mut spare = before.spare;
-    for i in 0..plan.constraint_count() {
-        if let Some(c) = plan.constraint_at(i) {
-            let slack = c
-                .limit
-                .saturating_sub(1)
-                .saturating_sub((all & c.roles).count_ones());
-            let fresh = difference(c.roles & useful, roles).count_ones();
-            if fresh > slack.saturating_mul(times) {
-                if fresh > slack {
-                    roles = roles | c.roles;
-                    spare = spare + slack;
-                }
+impl Sought<'_> {
+    // How many roles of a constraint he may still take.
+    pub(crate) fn slack(&self, c: &Constraint) -> u32
+        ensures { result ≡ c.now.limit - 1 - count_ones (bit_and self.now.all c.now.roles) }
+    {
+        c.limit
+            .saturating_sub(1)
+            .saturating_sub((self.all & c.roles).count_ones())
+    }
+
+    // Whether some limit leaves him too few roles to come to hold all of it.
+    pub(crate) fn beyond(&self) -> bool
+        ensures { result ≡ true → Nobody self.now }
+    {
+        let plan = self.survey.plan;
+        let open = difference(self.wanted, plan.held(self.word));
+        let each = most(plan, open);
+        for (c, apart) in plan.constraints().iter().zip(&self.survey.outside) {
+            let here = difference(open, *apart);
+            if here.count_ones() as u64 > self.slack(c) as u64 * each as u64 {
+                return true;
             }
         }
+        false
     }
-    Named { roles, spare }
-}
 
-// Whether some limits together do. Those with the least room for the roles that they name are taken first.
-pub(crate) fn together(plan: &Plan, word: RoleSet, wanted: PermissionSet) -> bool
-    ensures { result ≡ true → (w : ℕ) → Holder plan.now word wanted w → ⊥ }
-{
-    let open = difference(wanted, plan.held(word));
-    let useful = difference(grantors(plan, open), plan.authorised(word));
-    let each = most(plan, open);
-    let first = name_more(plan, word, wanted, useful, 8, Named { roles: 0, spare: 0 });
-    let second = name_more(plan, word, wanted, useful, 4, first);
-    let third = name_more(plan, word, wanted, useful, 2, second);
-    let named = name_more(plan, word, wanted, useful, 1, third);
-    let here = difference(open, elsewhere(plan, named.roles));
-    here.count_ones() as u64 > named.spare as u64 * each as u64
+    // One pass over the constraints: takes each of which more useful roles are not yet named than `times` its room.
+    fn name_more(&self, useful: RoleSet, times: u32, before: Named) -> Named
+        requires right { NamedRight self.now before }
+        requires small { before.spare ≤ 65536 }
+        ensures right { NamedRight self.now result }
+        ensures small { result.spare ≤ before.spare + 4096 }
+    {
+        let mut named = before;
+        for c in self.survey.plan.constraints() {
+            let slack = self.slack(c);
+            let fresh = difference(c.roles & useful, named.roles).count_ones();
+            if fresh > slack.saturating_mul(times).max(slack) {
+                named = Named {
+                    roles: named.roles | c.roles,
+                    spare: named.spare + slack,
+                };
+            }
+        }
+        named
+    }
+
+    // Whether some limits together do. Those with the least room for the roles that they name are taken first.
+    pub(crate) fn together(&self) -> bool
+        ensures { result ≡ true → Nobody self.now }
+    {
+        let plan = self.survey.plan;
+        let open = difference(self.wanted, plan.held(self.word));
+        let useful = difference(grantors(plan, open), self.all);
+        let each = most(plan, open);
+        let mut named = Named { roles: 0, spare: 0 };
+        for times in [8, 4, 2, 1] {
+            named = self.name_more(useful, times, named);
+        }
+        let here = difference(open, elsewhere(plan, named.roles));
+        here.count_ones() as u64 > named.spare as u64 * each as u64
+    }
 }

@@ -1,6 +1,8 @@
 // One user: with which roles, if any, he can hold a set of permissions without breaking a constraint.
 #![tactic(auto)]
 
+ghost use Rattle.std.specs.Prelude.{◌≡◌};
+ghost use Rattle.plan.specs.Authority.{authorised};
 ghost use Rattle.holding.specs.Tables.{Gains, Outside};
 
 use plan::Plan;
@@ -19,6 +21,16 @@ pub struct Survey<'a> {
     outside: [PermissionSet; 64],
     ghost gained: { Gains plan.now gains },
     ghost apart: { Outside plan.now outside },
+}
+
+// The user who is sought: he is authorised for what the roles `word` authorise for, which are `all`, and holds `wanted`.
+#[derive(Clone, Copy)]
+struct Sought<'a> {
+    survey: &'a Survey<'a>,
+    word: RoleSet,
+    all: RoleSet,
+    wanted: PermissionSet,
+    ghost whole: { all ≡ authorised survey.now.plan.now word },
 }
 
 // Roles that some constraints name, and how many more of them a user may still take.

@@ -1,91 +1,98 @@
 // One user: can he hold a set of permissions, and with which roles.
-ghost use Rattle.std.specs.Prelude.{◌≡◌, ℕ, MatchOption};
+ghost use Rattle.std.specs.Prelude.{◌≡◌, ℕ, ◌↔◌, MatchOption};
 ghost use Rattle.terms.specs.Sets.{Within};
-ghost use Rattle.holding.specs.Search.{Holder};
+ghost use Rattle.holding.specs.Search.{Holder, Fits, Nobody};
 ghost use Rattle.holding.specs.Holding.{HeldWith};
 
-use super::Survey;
-use super::bounding::{beyond, together};
-use plan::Plan;
+use super::{Sought, Survey};
 use terms::sets::{PermissionSet, RoleSet, contains, difference, lowest};
 
-// The roles that a user authorised for `all` cannot take without breaking a constraint.
-fn shut(plan: &Plan, all: RoleSet) -> RoleSet {
-    let mut roles: u64 = 0;
-    for i in 0..plan.constraint_count() {
-        if let Some(c) = plan.constraint_at(i) {
-            if (all & c.roles).count_ones().saturating_add(1) >= c.limit {
-                roles = roles | difference(c.roles, all);
+impl<'a> Sought<'a> {
+    fn of(survey: &'a Survey<'a>, word: RoleSet, wanted: PermissionSet) -> Sought<'a>
+        ensures asks { (w : ℕ) → Fits result w ↔ Holder survey.now.plan.now word wanted w }
+        ensures wanted { result.wanted ≡ wanted }
+    {
+        Sought {
+            survey,
+            word,
+            all: survey.plan.authorised(word),
+            wanted,
+        }
+    }
+
+    // The roles that he cannot take without breaking a constraint.
+    fn shut(&self) -> RoleSet {
+        self.survey
+            .plan
+            .constraints()
+            .iter()
+            .filter(|c| self.slack(c) == 0)
+            .fold(0, |roles, c| roles | difference(c.roles, self.all))
+    }
+
+    // Those of what is wanted with the fewest roles left to him.
+    fn urgent(&self) -> PermissionSet
+        ensures part { Within result self.now.wanted }
+        ensures some { result ≡ 0 → self.now.wanted ≡ 0 }
+    {
+        let plan = self.survey.plan;
+        let barred = self.shut();
+        let mut once: u64 = 0;
+        let mut twice: u64 = 0;
+        let mut often: u64 = 0;
+        // by number: the plan is asked for two rows of one role
+        for r in 0u32..64 {
+            if plan.juniors(r) & barred == 0 {
+                let g = plan.granted(r);
+                often |= twice & g;
+                twice |= once & g;
+                once |= g;
             }
         }
-    }
-    roles
-}
-
-// Those of `wanted` with the fewest roles left to a user with the roles `word`.
-fn urgent(plan: &Plan, word: RoleSet, wanted: PermissionSet) -> PermissionSet
-    ensures part { Within result wanted }
-    ensures some { result ≡ 0 → wanted ≡ 0 }
-{
-    let barred = shut(plan, plan.authorised(word));
-    let mut once: u64 = 0;
-    let mut twice: u64 = 0;
-    let mut often: u64 = 0;
-    for r in 0u32..64 {
-        if plan.juniors(r) & barred == 0 {
-            let g = plan.granted(r);
-            often = often | (twice & g);
-            twice = twice | (once & g);
-            once = once | g;
+        for held in [once, twice, often] {
+            let few = difference(self.wanted, held);
+            if few > 0 {
+                return few;
+            }
         }
+        self.wanted
     }
-    let none = difference(wanted, once);
-    if none > 0 {
-        return none;
-    }
-    let single = difference(wanted, twice);
-    if single > 0 {
-        return single;
-    }
-    let double = difference(wanted, often);
-    if double > 0 {
-        return double;
-    }
-    wanted
-}
 
-impl Survey<'_> {
-    // The roles of one user who satisfies the constraints, is authorised for what `word` authorises for, and holds `wanted`.
-    fn holder(&self, word: RoleSet, wanted: PermissionSet) -> Option<RoleSet>
-        ensures { MatchOption result ((w : ℕ) → Holder self.now.plan.now word wanted w → ⊥) (λ w. Holder self.now.plan.now word wanted w) }
+    // The roles of such a user, if there is one.
+    fn holder(&self) -> Option<RoleSet>
+        ensures { MatchOption result (Nobody self.now) (λ w. Fits self.now w) }
     {
-        if !self.plan.satisfies(word) {
+        let plan = self.survey.plan;
+        if !plan.satisfies(self.word) {
             return None;
         }
-        let Some(k) = lowest(urgent(self.plan, word, wanted)) else {
-            return Some(word);
+        let Some(k) = lowest(self.urgent()) else {
+            return Some(self.word);
         };
-        if beyond(self.plan, &self.outside, word, wanted) {
+        if self.beyond() {
             return None;
         }
-        if together(self.plan, word, wanted) {
+        if self.together() {
             return None;
         }
-        for r in 0u32..64 {
-            if contains(self.plan.granted(r), k) {
-                let rest = difference(wanted, self.gains[r as usize]);
-                if let Some(w) = self.holder(word | (1u64 << r), rest) {
+        for (r, gain) in self.survey.gains.iter().enumerate() {
+            if contains(plan.granted(r as u32), k) {
+                let rest = difference(self.wanted, *gain);
+                let next = Sought::of(self.survey, self.word | (1u64 << r), rest);
+                if let Some(w) = next.holder() {
                     return Some(w);
                 }
             }
         }
         None
     }
+}
 
+impl Survey<'_> {
     // The assigned roles of a user who satisfies the constraints and holds the permissions, if there is one; which is free.
     pub fn roles_for(&self, wanted: PermissionSet) -> Option<RoleSet>
         ensures { MatchOption result ((w : ℕ) → HeldWith self.now.plan.now wanted w → ⊥) (λ w. HeldWith self.now.plan.now wanted w) }
     {
-        self.holder(0, wanted)
+        Sought::of(self, 0, wanted).holder()
     }
 }

@@ -5,17 +5,14 @@ ghost use Rattle.holding.specs.Tables.{Gains, Outside};
 
 use super::Survey;
 use plan::Plan;
+use std::array;
 use terms::sets::{PermissionSet, RoleSet, contains};
 
 // What each role holds by itself.
 fn gains(plan: &Plan) -> [PermissionSet; 64]
     ensures { Gains plan.now result }
 {
-    let mut all: [u64; 64] = [0; 64];
-    for r in 0u32..64 {
-        all[r as usize] = plan.held(1u64 << r);
-    }
-    all
+    array::from_fn(|r| plan.held(1u64 << r))
 }
 
 // What is granted to roles that are not in the set.
@@ -23,9 +20,10 @@ pub(crate) fn elsewhere(plan: &Plan, roles: RoleSet) -> PermissionSet
     ensures { (a k : ℕ) → Granted plan.now a k → In a roles ⊎ In k result }
 {
     let mut all: u64 = 0;
+    // by number: the set is asked for it as well as the plan
     for a in 0u32..64 {
         if !contains(roles, a) {
-            all = all | plan.granted(a);
+            all |= plan.granted(a);
         }
     }
     all
@@ -35,11 +33,9 @@ pub(crate) fn elsewhere(plan: &Plan, roles: RoleSet) -> PermissionSet
 fn outside(plan: &Plan) -> [PermissionSet; 64]
     ensures { Outside plan.now result }
 {
-    let mut all: [u64; 64] = [0; 64];
-    for i in 0..plan.constraint_count() {
-        if let Some(c) = plan.constraint_at(i) {
-            all[i] = elsewhere(plan, c.roles);
-        }
+    let mut all = [0u64; 64];
+    for (i, c) in plan.constraints().iter().enumerate() {
+        all[i] = elsewhere(plan, c.roles);
     }
     all
 }
@@ -48,12 +44,10 @@ impl<'a> Survey<'a> {
     pub fn of(plan: &'a Plan) -> Survey<'a>
         ensures { result.plan.now ≡ plan.now }
     {
-        let gains = gains(plan);
-        let outside = outside(plan);
         Survey {
             plan,
-            gains,
-            outside,
+            gains: gains(plan),
+            outside: outside(plan),
         }
     }
 

@@ -1,3 +1,4 @@
 pub mod Shares
 pub mod Memories
+pub mod Items
 pub mod Judgements

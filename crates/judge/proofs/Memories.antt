@@ -4,15 +4,26 @@ use lib.ListN.{length-replicate, get_or-replicate}
 use Rattle.std.proofs.lemmas.List.{get_or-set_same, get_or-set_other}
 use Rattle.std.proofs.lemmas.Bool.{cases_eq}
 use Rattle.plan.specs.declared.Plan.{Plan}
+use Rattle.holding.specs.Holding.{HeldWith}
 use Rattle.judge.specs.Memory.{SingleRight, ShortRight, SlotsRight}
 use Rattle.judge.specs.declared.memo.Single.{Single}
-use Rattle.judge.specs.declared.memo.Single.TheVariants.{Unknown}
+use Rattle.judge.specs.declared.memo.Single.TheVariants.{Unknown, Never, Held}
 use Rattle.judge.proofs.Shares.{some_user}
 
 module _ (p : Plan) where
   -- nobody holds a set that is not empty
   pub short_none : (s : ℕ) → ShortRight p s 0
   short_none s g c = let l = some_user p s g c.users c.cover in omega (arith, c.few)
+
+  -- nothing is known of one user
+  pub single_none : (s : ℕ) → SingleRight p s Unknown
+  single_none s = (λ e. absurd (cc), λ e. absurd (cc))
+
+  pub single_never : (s : ℕ) → ((w : ℕ) → HeldWith p s w → ⊥) → SingleRight p s Never
+  single_never s none = (λ _. none, λ e. absurd (cc))
+
+  pub single_held : (s w : ℕ) → HeldWith p s w → SingleRight p s Held
+  single_held s w h = (λ e. absurd (cc), λ _. ∣ (w, h) ∣₁)
 
   abbrev Slot : ℕ → Single → ℕ → Type 0
   Slot s v n = SingleRight p s v × ShortRight p s n
@@ -41,4 +52,4 @@ module _ (p : Plan) where
   pub slots_none : (n : ℕ) → SlotsRight p (replicate n 0) (replicate n Unknown) (replicate n 0)
   slots_none n i l =
       let b : i < n = omega (arith, length-replicate {A = ℕ} n 0) in
-      moved _ 0 _ Unknown _ 0 (get_or-replicate n i 0 0 b) (get_or-replicate n i Unknown Unknown b) (get_or-replicate n i 0 0 b) (tt, short_none 0)
+      moved _ 0 _ Unknown _ 0 (get_or-replicate n i 0 0 b) (get_or-replicate n i Unknown Unknown b) (get_or-replicate n i 0 0 b) (single_none 0, short_none 0)

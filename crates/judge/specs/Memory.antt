@@ -1,5 +1,5 @@
 -- What the tables of the search say of a plan.
-use Rattle.std.specs.Prelude.{ℕ, ◌<◌, List, length, slice_index, slice_index_or}
+use Rattle.std.specs.Prelude.{◌≡◌, ℕ, ◌<◌, List, length, slice_index, slice_index_or}
 use Rattle.plan.specs.declared.Plan.{Plan}
 use Rattle.holding.specs.Holding.{HeldWith}
 use Rattle.judge.specs.Search.{Coverable}
@@ -7,11 +7,9 @@ use Rattle.judge.specs.declared.memo.Single.{Single}
 use Rattle.judge.specs.declared.memo.Single.TheVariants.{Unknown, Never, Held}
 use Rattle.judge.specs.declared.memo.Memo.{Memo}
 
--- of one user and the set s
+-- of one user and the set s: where it is known that none holds it, and where it is known that one does
 abbrev pub SingleRight : Plan → ℕ → Single → Type 0
-SingleRight p s Unknown = Unit {0}
-SingleRight p s Never = (w : ℕ) → HeldWith p s w → ⊥
-SingleRight p s Held = (w : ℕ) × HeldWith p s w
+SingleRight p s v = (v ≡ Never → (w : ℕ) → HeldWith p s w → ⊥) × (v ≡ Held → ∥ ((w : ℕ) × HeldWith p s w) ∥₁)
 
 -- n users cannot hold the set s together; of the empty set nothing is said
 abbrev pub ShortRight : Plan → ℕ → ℕ → Type 0

@@ -23,7 +23,7 @@ pub struct JudgedPlan {
 
 // Who could break which policy of a refused plan: the lowest policy that is not enforced, the fewest users that cover it, and
 // their assigned roles; the sets after those are empty.
-#[derive(Clone, Copy)]
+#[derive(Clone, Copy, PartialEq, Eq, Debug)]
 pub struct Witness {
     pub policy: usize,
     pub users: usize,

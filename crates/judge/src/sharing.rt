@@ -1,6 +1,6 @@
 // Several users: how a set of permissions can be shared out, so that as few as possible hold it together.
 ghost use Rattle.std.specs.Prelude.{◌≡◌, ℕ, ◌+◌, ◌<◌, ◌≤◌, true, false, List, length, MatchOption};
-ghost use Rattle.judge.specs.Search.{Covers, Coverable, Fewest, Share, Shared, JoinedBy};
+ghost use Rattle.judge.specs.Search.{Covers, Fewest, Share, Shared, JoinedBy};
 ghost use Rattle.holding.specs.Holding.{HeldWith};
 ghost use Rattle.judge.specs.Memory.{MemoRight};
 
@@ -8,6 +8,16 @@ use super::memo::{Memo, Single};
 use super::users::Users;
 use holding::Survey;
 use terms::sets::{PermissionSet, contains, difference, lowest};
+
+// A search for users of one plan: what was surveyed of it, and what has been found out of it. The sets are looked up by
+// their members in `all`.
+#[derive(Drop)]
+pub struct Search<'a> {
+    survey: &'a Survey<'a>,
+    memo: Memo<'a>,
+    all: PermissionSet,
+    ghost right: { MemoRight survey.now.plan.now memo },
+}
 
 // The slot of a set of permissions: its bits at the permissions of `all`, up to sixteen of them, drawn together.
 fn slot(all: PermissionSet, held: PermissionSet) -> usize {
@@ -23,133 +33,132 @@ fn slot(all: PermissionSet, held: PermissionSet) -> usize {
     (i & 65535) as usize
 }
 
-// Whether one user who satisfies the constraints can hold the set.
-fn holdable(survey: &Survey, all: PermissionSet, memo: &mut Memo, held: PermissionSet) -> bool
-    requires memo { MemoRight survey.now.plan.now memo.old }
-    ensures yes { result ≡ true → (w : ℕ) × HeldWith survey.now.plan.now held w }
-    ensures no { result ≡ false → (w : ℕ) → HeldWith survey.now.plan.now held w → ⊥ }
-    ensures memo { MemoRight survey.now.plan.now memo.new }
-{
-    let i = slot(all, held);
-    match memo.single(i, held) {
-        Single::Never => return false,
-        Single::Held => return true,
-        Single::Unknown => {}
-    }
-    match survey.roles_for(held) {
-        Some(_) => {
-            memo.note_single(i, held, Single::Held);
-            true
-        }
-        None => {
-            memo.note_single(i, held, Single::Never);
-            false
+impl<'a> Search<'a> {
+    pub(crate) fn over(survey: &'a Survey<'a>, memo: Memo<'a>) -> Search<'a>
+        requires { MemoRight survey.now.plan.now memo }
+        ensures { result.survey.now ≡ survey.now }
+    {
+        Search {
+            survey,
+            memo,
+            all: 0,
         }
     }
-}
 
-// The users and one more, with roles that hold `mine`.
-fn joined(survey: &Survey, mine: PermissionSet, others: Users) -> Option<Users>
-    requires few { others.count < 7 }
-    ensures { MatchOption result ((w : ℕ) → HeldWith survey.now.plan.now mine w → ⊥) (λ us. JoinedBy survey.now.plan.now mine others us) }
-{
-    match survey.roles_for(mine) {
-        Some(word) => Some(others.with(word)),
-        None => None,
+    // What is surveyed.
+    pub(crate) fn survey(&self) -> &'a Survey<'a>
+        ensures { result.now ≡ self.now.survey.now }
+    {
+        self.survey
     }
-}
 
-// One user who holds `mine`, and at most `n` others, who hold `left`; each permission of `open` is held by him or by them.
-fn share(
-    survey: &Survey,
-    all: PermissionSet,
-    memo: &mut Memo,
-    n: usize,
-    open: PermissionSet,
-    mine: PermissionSet,
-    left: PermissionSet,
-) -> Option<Users>
-    requires few { n < 7 }
-    requires memo { MemoRight survey.now.plan.now memo.old }
-    ensures answer { MatchOption result (Share survey.now.plan.now n «open» mine left → ⊥) (λ us. Shared survey.now.plan.now n «open» mine left us) }
-    ensures memo { MemoRight survey.now.plan.now memo.new }
-{
-    let Some(k) = lowest(open) else {
-        if !holdable(survey, all, memo, mine) {
-            return None;
+    // Whether one user who satisfies the constraints can hold the set.
+    fn holdable(&mut self, held: PermissionSet) -> bool
+        ensures yes { result ≡ true → ∥ ((w : ℕ) × HeldWith self.old.survey.now.plan.now held w) ∥₁ }
+        ensures no { result ≡ false → (w : ℕ) → HeldWith self.old.survey.now.plan.now held w → ⊥ }
+        ensures same { self.new.survey.now ≡ self.old.survey.now }
+    {
+        let i = slot(self.all, held);
+        match self.memo.single(i, held) {
+            Single::Never => return false,
+            Single::Held => return true,
+            Single::Unknown => {}
         }
-        let Some(low) = lowest(left) else {
-            return joined(survey, mine, Users::none());
-        };
-        let i = slot(all, left);
-        if n <= memo.shortage(i, left) as usize {
-            return None;
-        }
-        let bit = 1u64 << low;
-        return match share(survey, all, memo, n - 1, difference(left, bit), bit, 0) {
-            Some(others) => joined(survey, mine, others),
-            None => {
-                memo.note_short(i, left, n as u8);
-                None
+        match self.survey.roles_for(held) {
+            Some(_) => {
+                self.memo.note_single(i, held, Single::Held);
+                true
             }
-        };
-    };
-    let bit = 1u64 << k;
-    let rest = difference(open, bit);
-    let more = mine | bit;
-    if holdable(survey, all, memo, more) {
-        if let Some(us) = share(survey, all, memo, n, rest, more, left) {
-            return Some(us);
+            None => {
+                self.memo.note_single(i, held, Single::Never);
+                false
+            }
         }
     }
-    if n == 0 {
-        return None;
-    }
-    share(survey, all, memo, n, rest, mine, left | bit)
-}
 
-// Whether nobody who satisfies the constraints holds some one permission of `wanted`.
-fn barren(survey: &Survey, memo: &mut Memo, wanted: PermissionSet) -> bool
-    requires memo { MemoRight survey.now.plan.now memo.old }
-    ensures answer { result ≡ true → (ws : List ℕ) → Covers survey.now.plan.now wanted ws → ⊥ }
-    ensures memo { MemoRight survey.now.plan.now memo.new }
-{
-    for k in 0u32..64 {
-        if contains(wanted, k) {
-            if !holdable(survey, wanted, memo, 1u64 << k) {
+    // The users and one more, with roles that hold `mine`.
+    fn joined(&self, mine: PermissionSet, others: Users) -> Option<Users>
+        requires few { others.count < 7 }
+        ensures { MatchOption result ((w : ℕ) → HeldWith self.now.survey.now.plan.now mine w → ⊥) (λ us. JoinedBy self.now.survey.now.plan.now mine others us) }
+    {
+        Some(others.with(self.survey.roles_for(mine)?))
+    }
+
+    // One user who holds `mine`, and at most `n` others, who hold `left`; each permission of `open` is held by him or by them.
+    fn share(
+        &mut self,
+        n: usize,
+        open: PermissionSet,
+        mine: PermissionSet,
+        left: PermissionSet,
+    ) -> Option<Users>
+        requires few { n < 7 }
+        ensures answer { MatchOption result (Share self.old.survey.now.plan.now n «open» mine left → ⊥) (λ us. Shared self.old.survey.now.plan.now n «open» mine left us) }
+        ensures same { self.new.survey.now ≡ self.old.survey.now }
+    {
+        let Some(k) = lowest(open) else {
+            if !self.holdable(mine) {
+                return None;
+            }
+            let Some(low) = lowest(left) else {
+                return self.joined(mine, Users::none());
+            };
+            let i = slot(self.all, left);
+            if n <= self.memo.shortage(i, left) as usize {
+                return None;
+            }
+            let bit = 1u64 << low;
+            let Some(others) = self.share(n - 1, difference(left, bit), bit, 0) else {
+                self.memo.note_short(i, left, n as u8);
+                return None;
+            };
+            return self.joined(mine, others);
+        };
+        let bit = 1u64 << k;
+        let rest = difference(open, bit);
+        let more = mine | bit;
+        if self.holdable(more) {
+            if let Some(us) = self.share(n, rest, more, left) {
+                return Some(us);
+            }
+        }
+        if n == 0 {
+            return None;
+        }
+        self.share(n, rest, mine, left | bit)
+    }
+
+    // Whether nobody who satisfies the constraints holds some one permission of `wanted`.
+    fn barren(&mut self, wanted: PermissionSet) -> bool
+        ensures answer { result ≡ true → (ws : List ℕ) → Covers self.old.survey.now.plan.now wanted ws → ⊥ }
+        ensures same { self.new.survey.now ≡ self.old.survey.now }
+    {
+        for k in 0u32..64 {
+            if contains(wanted, k) && !self.holdable(1u64 << k) {
                 return true;
             }
         }
+        false
     }
-    false
-}
 
-// The fewest users, if fewer than `below`, who satisfy the constraints and together hold all of `wanted`.
-pub(crate) fn fewest_users(
-    survey: &Survey,
-    memo: &mut Memo,
-    wanted: PermissionSet,
-    below: u32,
-) -> Option<Users>
-    requires few { (below ≤ 8) × (0 < wanted) }
-    requires memo { MemoRight survey.now.plan.now memo.old }
-    ensures answer { MatchOption result ((ws : List ℕ) → Covers survey.now.plan.now wanted ws → below ≤ length ws) (λ us. Fewest survey.now.plan.now wanted below us) }
-    ensures memo { MemoRight survey.now.plan.now memo.new }
-{
-    let Some(low) = lowest(wanted) else {
-        return None;
-    };
-    if barren(survey, memo, wanted) {
-        return None;
-    }
-    let bit = 1u64 << low;
-    let rest = difference(wanted, bit);
-    let mut n: usize = 0;
-    while n + 1 < below as usize {
-        if let Some(us) = share(survey, wanted, memo, n, rest, bit, 0) {
-            return Some(us);
+    // The fewest users, if fewer than `below`, who satisfy the constraints and together hold all of `wanted`.
+    pub(crate) fn fewest_users(&mut self, wanted: PermissionSet, below: u32) -> Option<Users>
+        requires few { (below ≤ 8) × (0 < wanted) }
+        ensures answer { MatchOption result ((ws : List ℕ) → Covers self.old.survey.now.plan.now wanted ws → below ≤ length ws) (λ us. Fewest self.old.survey.now.plan.now wanted below us) }
+        ensures same { self.new.survey.now ≡ self.old.survey.now }
+    {
+        let low = lowest(wanted)?;
+        self.all = wanted;
+        if self.barren(wanted) {
+            return None;
         }
-        n += 1;
+        let bit = 1u64 << low;
+        let rest = difference(wanted, bit);
+        for n in 0..(below as usize).saturating_sub(1) {
+            if let Some(us) = self.share(n, rest, bit, 0) {
+                return Some(us);
+            }
+        }
+        None
     }
-    None
 }

@@ -5,7 +5,8 @@ use terms::sets::RoleSet;
 
 mod listing;
 
-// At most seven users, by their assigned roles; the sets after them are empty.
+// At most seven users, by their assigned roles. It is the part of a witness that speaks of users, which promises that the sets
+// after theirs are empty, so it is a table with a count.
 #[derive(Clone, Copy)]
 pub struct Users {
     pub roles: [RoleSet; 7],

@@ -3,9 +3,9 @@ use Rattle.std.proofs.Common.{◌≡◌, ℕ, ◌≤◌, length, arith, length-t
 use Rattle.terms.specs.Lists.{listed}
 use Rattle.terms.specs.declared.short_list.ShortList.{ShortList}
 
-pub length-listed : {T : Type 0} {N : ℕ} (l : ShortList T N) → length (listed l) ≡ l.count
+pub length_listed : {T : Type 0} {N : ℕ} (l : ShortList T N) → length (listed l) ≡ l.count
 unfolding listed
-length-listed l = omega (arith, length-take l.count l.table, l.sized, l.within)
+length_listed l = omega (arith, length-take l.count l.table, l.sized, l.within)
 
-pub listed-within : {T : Type 0} {N : ℕ} (l : ShortList T N) → length (listed l) ≤ N
-listed-within l = omega (arith, length-listed l, l.within)
+pub listed_within : {T : Type 0} {N : ℕ} (l : ShortList T N) → length (listed l) ≤ N
+listed_within l = omega (arith, length_listed l, l.within)

@@ -1,6 +1,5 @@
-ghost use Rattle.std.specs.Prelude.{◌≡◌, ◌<◌, true, length};
+ghost use Rattle.std.specs.Prelude.{◌≡◌, ◌<◌, true, length, slice_index};
 ghost use Rattle.plan.specs.declared.Plan.{Plan};
-ghost use Rattle.judge.specs.Search.{Coverable};
 ghost use Rattle.judge.specs.Memory.{SingleRight, ShortRight, MemoRight};
 
 use super::{Memo, Single};
@@ -26,30 +25,29 @@ impl<'a> Memo<'a> {
         }
     }
 
+    // Whether slot i is the set's.
+    fn has(&self, i: usize, held: PermissionSet) -> bool
+        ensures { result ≡ true → (i < length self.now.sets.now) × (slice_index self.now.sets.now i ≡ held) }
+    {
+        i < self.sets.len() && self.sets[i] == held
+    }
+
     // What slot i knows of one user and the set.
     pub(crate) fn single(&self, i: usize, held: PermissionSet) -> Single
         ensures { (p : Plan) → MemoRight p self.now → SingleRight p held result }
     {
-        if i >= self.sets.len() {
-            return Single::Unknown;
+        if self.has(i, held) {
+            self.single[i]
+        } else {
+            Single::Unknown
         }
-        if self.sets[i] != held {
-            return Single::Unknown;
-        }
-        self.single[i]
     }
 
     // A number of users of whom slot i knows that they cannot hold the set together.
     pub(crate) fn shortage(&self, i: usize, held: PermissionSet) -> u8
         ensures { (p : Plan) → MemoRight p self.now → ShortRight p held result }
     {
-        if i >= self.sets.len() {
-            return 0;
-        }
-        if self.sets[i] != held {
-            return 0;
-        }
-        self.short[i]
+        if self.has(i, held) { self.short[i] } else { 0 }
     }
 
     // Slot i has what is known of the set.

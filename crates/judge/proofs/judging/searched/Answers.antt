@@ -1,11 +1,11 @@
+use Rattle.std.proofs.Common.{ap, ◌∙◌}
+use Rattle.holding.specs.declared.Survey.{Survey}
 use Rattle.judge.proofs.Memories.{slots_moved, slots_none}
 use Rattle.judge.proofs.Judgements.{answer_of}
 use Rattle.judge.proofs.judging.searched.Goals as goal
 
-pub witness_of-requires : goal.witness_of-requires
-witness_of-requires c =
-    let p = c.of-survey.result.plan.now in
-    slots_moved p c.over-memo.ensures.sets c.over-memo.ensures.single c.over-memo.ensures.short (slots_none p 65536)
+pub over-requires : goal.over-requires
+over-requires c = slots_moved c.of-survey.result.plan.now c.over-memo.ensures.sets c.over-memo.ensures.single c.over-memo.ensures.short (slots_none c.of-survey.result.plan.now 65536)
 
 pub returns : goal.returns
-returns c = answer_of c.args.plan.now c.of-survey.result.plan.now c.witness_of.result c.of-survey.ensures c.witness_of.ensures
+returns c = answer_of c.args.plan.now c.over.result.survey.now.plan.now c.witness.result (ap (λ (s : Survey). s.plan.now) c.over.ensures ∙ c.of-survey.ensures) c.witness.ensures

@@ -1,5 +1,0 @@
-use Rattle.std.proofs.Common.{◌+◌, ◌*◌, ◌^◌}
-use Rattle.judge.proofs.sharing.+share.Given as goal
-
-abbrev pub decreases-share : goal.decreases-share
-decreases-share l = l.n * 2 ^ 64 + l.open
