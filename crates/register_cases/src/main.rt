@@ -108,9 +108,9 @@ fn main(rt: HostRuntime) -> io::Result<()> {
     for words in [0usize, 1, 63, 4096, 5000] {
         let plain = over_rows(heap, words, &mut random, |r, m, g| compare(r, m, g, CALLS))?;
         report(&rt, "bit rows", words, &plain)?;
-        let one = over_rows(heap, words, &mut random, under_one)?;
+        let one = over_rows(heap, words, &mut random, |r, m, g| under_one(r, m, g))?;
         report(&rt, "one layer of seats", words, &one)?;
-        let two = over_rows(heap, words, &mut random, under_two)?;
+        let two = over_rows(heap, words, &mut random, |r, m, g| under_two(r, m, g))?;
         report(&rt, "two layers of seats", words, &two)?;
     }
     for users in [0usize, 1, 5, 70] {
