@@ -10,6 +10,7 @@ use Rattle.register.proofs.Cases.{members_low, seats_low}
 use Rattle.register.proofs.Tables.{each_row, none_row, none_pairs, none_members}
 use Rattle.register.proofs.Tables as t
 use Rattle.bit_rows.specs.Table.{rows_of, model_of}
+use Rattle.bit_rows.specs.declared.BitRows.{BitRows}
 
 -- n pairs, and as many members of each role as ms says, in rows of 64 bits
 pub record Counts (rows ms : List ℕ) (n : ℕ) : Type 0 where
@@ -65,3 +66,7 @@ module _ (ws ms : List ℕ) (n r : ℕ) (c : Counts (rows_of ws) ms n) (small : 
 
   pub a_seat : get_or ms r 0 < 4096 → members (rows_of ws) r < seats_of (model_of ws) r
   a_seat h = omega (arith, members_are, seats_low (model_of ws) r small)
+
+-- the counts that a register keeps
+pub counts_of : (s : BitRows) → Counts (rows_of s.words.now) s.members s.pairs
+counts_of s = record { counted = s.counted; each = s.each; wide = s.wide }

@@ -3,7 +3,7 @@ use Rattle.std.proofs.Common.{◌≡◌, ℕ, ◌^◌, ◌<◌, ◌≤◌, Bool,
 use lib.Bits.{bit_or, bit_xor, or_lt, xor_lt}
 use Rattle.std.proofs.lemmas.Nat.{pow_pos, pow_below}
 use Rattle.std.proofs.lemmas.List.{length-set, length-replicate}
-use Rattle.std.proofs.lemmas.Bool.{cases_eq, cases_lt, ltb-true, eqb-true, and_parts}
+use Rattle.std.proofs.lemmas.Bool.{cases_eq, cases_lt, ltb-true, eqb-true, both_ways, and_parts}
 use Rattle.terms.specs.Sets.{bit, In}
 use Rattle.terms.specs.Refusals.{Refusal, refusal}
 use Rattle.terms.proofs.Bits.{bit_high, none_in}
@@ -68,14 +68,11 @@ module _ (m : Model) (s : Sound m) (u r : ℕ) where
     lasts = subst (Lasts m) (sym a.model) (row_lasts m s u (bit_or (row m.rows u) (2 ^ r)) low (or_lt 64 (row m.rows u) (2 ^ r) (s.wide u) (pow_below r 64 small)) (omega (arith, t.with_pairs m.rows u r low free)));
   }
 
-some_none : {X : Type 0} {A : Type 0} (x : X) → Some x ≡ None → A
-some_none x e = let z : ◌≡◌ {A = ℕ} 0 1 = cc in absurd (omega arith)
-
 exactly : (m : Model) (u r : ℕ) → Sound m → Way m u r → AddsExactly m u r
-exactly m u r s (outside h) = stays_exactly m s u r (Some (refusal 51 [])) (some_none (refusal 51 [])) (c.add_outside m u r h)
+exactly m u r s (outside h) = stays_exactly m s u r (Some (refusal 51 [])) (λ e. cc) (c.add_outside m u r h)
 exactly m u r s (held low small h) = stays_exactly m s u r None (λ _. h) (c.add_held m u r (c.held_true m u r low small h))
-exactly m u r s (no_seat low small free seat) = stays_exactly m s u r (Some (refusal 52 (r ∷ []))) (some_none (refusal 52 (r ∷ []))) (c.add_no_seat m u r low small free seat)
-exactly m u r s (no_place low small free seat place) = stays_exactly m s u r (Some (refusal 53 [])) (some_none (refusal 53 [])) (c.add_no_place m u r low small free seat place)
+exactly m u r s (no_seat low small free seat) = stays_exactly m s u r (Some (refusal 52 (r ∷ []))) (λ e. cc) (c.add_no_seat m u r low small free seat)
+exactly m u r s (no_place low small free seat place) = stays_exactly m s u r (Some (refusal 53 [])) (λ e. cc) (c.add_no_place m u r low small free seat place)
 exactly m u r s (new low small free seat place) = grows_exactly m s u r low small free place (c.add_new m u r low small free seat place)
 
 -- ---- remove
@@ -93,7 +90,7 @@ removes m u r s true e =
     }
 removes m u r s false e =
     let a = c.remove_free m u r e in
-    let free : Has m.rows u r → ⊥ = λ h. let i = has_inside m s u r h in let z : true ≡ false = sym (c.held_true m u r i.0 i.1 h) ∙ e in let y : ◌≡◌ {A = ℕ} 0 1 = cc in omega arith in
+    let free : Has m.rows u r → ⊥ = λ h. let i = has_inside m s u r h in both_ways (holds m u r) e (c.held_true m u r i.0 i.1 h) in
     record {
       gone = λ x. free (subst (λ y. Has y.rows u r) a.model x);
       only = λ v k x. subst (λ y. Has y.rows v k) a.model x;

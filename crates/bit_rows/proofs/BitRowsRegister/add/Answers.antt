@@ -1,7 +1,7 @@
 use Rattle.std.proofs.Common.{◌≡◌, ◌*◌, [], ◌∷◌, length, sym, refl, ap, ◌∙◌, arith, rules}
 use Rattle.register.proofs.Cases as cases
 use Rattle.bit_rows.specs.Table.{rows_of, model_of}
-use Rattle.bit_rows.proofs.Keeping.{Counts, counts_with, no_seat, a_seat}
+use Rattle.bit_rows.proofs.Keeping.{counts_of, counts_with, no_seat, a_seat}
 use Rattle.bit_rows.proofs.Words.{in_table, with_word, model_written, spare_kept}
 use Rattle.bit_rows.proofs.BitRowsRegister.add.Goals as goal
 
@@ -28,8 +28,7 @@ returns-then-self-role-ge4096 c =
     let r = c.args.role in
     let i = c.in-Some.ensures in
     let free = cases.read_free (rows_of ws) u r c.in-Some.row c.contains.result i.same c.contains.ensures.no c.if-contains.false in
-    let counts : Counts (rows_of ws) s.members s.pairs = record { counted = s.counted; each = s.each; wide = s.wide } in
-    let a = cases.add_no_seat (model_of ws) u r i.low i.small free (no_seat ws s.members s.pairs r counts i.small (omega arith)) in
+    let a = cases.add_no_seat (model_of ws) u r i.low i.small free (no_seat ws s.members s.pairs r (counts_of s) i.small (omega arith)) in
     record { answer = sym a.answer; model = sym a.model; kept = refl }
 
 pub returns-then-self-places : goal.returns-then-self-places
@@ -40,9 +39,8 @@ returns-then-self-places c =
     let r = c.args.role in
     let i = c.in-Some.ensures in
     let free = cases.read_free (rows_of ws) u r c.in-Some.row c.contains.result i.same c.contains.ensures.no c.if-contains.false in
-    let counts : Counts (rows_of ws) s.members s.pairs = record { counted = s.counted; each = s.each; wide = s.wide } in
     let places : c.places.result ≡ 64 * length (rows_of ws) = c.places.ensures ∙ ap (λ t. 64 * length t) c.rows.ensures in
-    let a = cases.add_no_place (model_of ws) u r i.low i.small free (a_seat ws s.members s.pairs r counts i.small (omega arith)) (omega (arith, s.counted)) in
+    let a = cases.add_no_place (model_of ws) u r i.low i.small free (a_seat ws s.members s.pairs r (counts_of s) i.small (omega arith)) (omega (arith, s.counted)) in
     record { answer = sym a.answer; model = sym a.model; kept = refl }
 
 pub bounds-self-user : goal.bounds-self-user
@@ -56,9 +54,8 @@ invariant_of-self c =
     let r = c.args.role in
     let i = c.in-Some.ensures in
     let free = cases.read_free (rows_of ws) u r c.in-Some.row c.contains.result i.same c.contains.ensures.no c.if-contains.false in
-    let counts : Counts (rows_of ws) s.members s.pairs = record { counted = s.counted; each = s.each; wide = s.wide } in
     let long : length s.members ≡ 64 = search rules in
-    let k = counts_with (rows_of ws) s.members s.pairs u r counts long i.low i.small free _ (with_word ws u r c.in-Some.row i c.with_member.result c.with_member.ensures) in
+    let k = counts_with (rows_of ws) s.members s.pairs u r (counts_of s) long i.low i.small free _ (with_word ws u r c.in-Some.row i c.with_member.result c.with_member.ensures) in
     record { counted = k.counted; each = k.each; wide = k.wide }
 
 pub returns : goal.returns
@@ -69,9 +66,8 @@ returns c =
     let r = c.args.role in
     let i = c.in-Some.ensures in
     let free = cases.read_free (rows_of ws) u r c.in-Some.row c.contains.result i.same c.contains.ensures.no c.if-contains.false in
-    let counts : Counts (rows_of ws) s.members s.pairs = record { counted = s.counted; each = s.each; wide = s.wide } in
     let places : c.places.result ≡ 64 * length (rows_of ws) = c.places.ensures ∙ ap (λ t. 64 * length t) c.rows.ensures in
-    let a = cases.add_new (model_of ws) u r i.low i.small free (a_seat ws s.members s.pairs r counts i.small (omega arith)) (omega (arith, s.counted)) in
+    let a = cases.add_new (model_of ws) u r i.low i.small free (a_seat ws s.members s.pairs r (counts_of s) i.small (omega arith)) (omega (arith, s.counted)) in
     let x = c.with_member.result in
     record {
       answer = sym a.answer;

@@ -2,7 +2,7 @@ use Rattle.std.proofs.Common.{◌≡◌, ◌*◌, ◌%◌, ◌^◌, [], ◌∷�
 use lib.Bits.{bit_xor}
 use Rattle.register.proofs.Cases as cases
 use Rattle.bit_rows.specs.Table.{rows_of, model_of}
-use Rattle.bit_rows.proofs.Keeping.{Counts, counts_less, some_pair, some_member}
+use Rattle.bit_rows.proofs.Keeping.{counts_of, counts_less, some_pair, some_member}
 use Rattle.bit_rows.proofs.Words.{in_table, less_word, model_written, spare_kept}
 use Rattle.bit_rows.proofs.BitRowsRegister.remove.Goals as goal
 
@@ -33,8 +33,7 @@ overflow_sub-self c =
     let r = c.args.role in
     let i = c.in-Some.ensures in
     let held = cases.read_held (rows_of ws) u r c.in-Some.row c.contains.result i.same c.contains.ensures.yes c.if-not-contains.false in
-    let counts : Counts (rows_of ws) s.members s.pairs = record { counted = s.counted; each = s.each; wide = s.wide } in
-    some_member (rows_of ws) s.members s.pairs u r counts (search rules) i.low i.small held
+    some_member (rows_of ws) s.members s.pairs u r (counts_of s) (search rules) i.low i.small held
 
 pub overflow_sub-self-2 : goal.overflow_sub-self-2
 overflow_sub-self-2 c =
@@ -44,8 +43,7 @@ overflow_sub-self-2 c =
     let r = c.args.role in
     let i = c.in-Some.ensures in
     let held = cases.read_held (rows_of ws) u r c.in-Some.row c.contains.result i.same c.contains.ensures.yes c.if-not-contains.false in
-    let counts : Counts (rows_of ws) s.members s.pairs = record { counted = s.counted; each = s.each; wide = s.wide } in
-    some_pair (rows_of ws) s.members s.pairs u r counts (search rules) i.low i.small held
+    some_pair (rows_of ws) s.members s.pairs u r (counts_of s) (search rules) i.low i.small held
 
 pub invariant_of-self : goal.invariant_of-self
 invariant_of-self c =
@@ -55,9 +53,8 @@ invariant_of-self c =
     let r = c.args.role in
     let i = c.in-Some.ensures in
     let held = cases.read_held (rows_of ws) u r c.in-Some.row c.contains.result i.same c.contains.ensures.yes c.if-not-contains.false in
-    let counts : Counts (rows_of ws) s.members s.pairs = record { counted = s.counted; each = s.each; wide = s.wide } in
     let long : length s.members ≡ 64 = search rules in
-    let k = counts_less (rows_of ws) s.members s.pairs u r counts long i.low i.small held _ (less_word ws u r c.in-Some.row i) in
+    let k = counts_less (rows_of ws) s.members s.pairs u r (counts_of s) long i.low i.small held _ (less_word ws u r c.in-Some.row i) in
     record { counted = k.counted; each = k.each; wide = k.wide }
 
 pub returns : goal.returns
