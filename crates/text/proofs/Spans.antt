@@ -9,7 +9,7 @@ use Rattle.text.specs.declared.field.TextFault.TheVariants.{StrayQuote, AfterQuo
 use Rattle.text.specs.declared.field.Span.{Span}
 use Rattle.text.specs.Grammar.{Plain, AllPlain, escape, written, sign, Ends, Fielded, NoField}
 use Rattle.text.specs.Scans.{NoQuote, PlainTo, Unclosed, Closes, Upto, past, Spans, MarkTo}
-use Rattle.text.specs.Faults.{Wrong}
+use Rattle.text.specs.Faults.{Wrong, FieldRefused}
 use Rattle.text.specs.Faults.Wrong.{bare, stray, unclosed, extra}
 use Rattle.text.proofs.Contents.{Stopped, plain_unique, escape_unique, escape_open}
 use Rattle.text.proofs.Marks.{NoMark, no_mark, head_at}
@@ -109,6 +109,9 @@ wrong_none s at _ (bare {i = i} h b) = upto_none _ _ _ _ _ h (no_mark s i b.0 (�
 wrong_none s at _ (stray {i = i} h l e) = upto_none _ _ _ _ _ h (no_mark s i l (λ k. omega arith) (λ k. let z = k.1 in omega arith))
 wrong_none s at _ (unclosed l e h) = open_none s at l e h
 wrong_none s at _ (extra {i = i} h l p) = upto_none _ _ _ _ _ h (no_mark s i l p.0 (λ k. p.2 k.1))
+
+pub field_refused : (s : List ℕ) (at : ℕ) (fault : TextFault) → Wrong s at fault → FieldRefused s at fault
+field_refused s at fault w = record { absent = wrong_none s at fault w; cause = w }
 
 -- the byte that stops an unquoted field and begins no mark is a quote
 pub stop_quote : (s : List ℕ) (i : ℕ) → i < length s → (i < length s → Plain (get_or s i 0) → ⊥) → (get_or s i 0 ≡ 44 → ⊥) → (get_or s i 0 ≡ 13 → ⊥) → (get_or s i 0 ≡ 10 → ⊥) → get_or s i 0 ≡ 34
