@@ -86,6 +86,7 @@ pub before_done : (s : List ℕ) (from at count end next : ℕ) (old new new' : 
 before_done s from at count end next old new new' f b h n e k = record {
   fields = b.fields ++ f ∷ [];
   took = subst (λ i. TookRecord s from (b.fields ++ f ∷ []) i next) (sym e) (b.taken (f ∷ []) _ next (last h n));
+  within = h.closed.within;
   counted = sym (length_push b.fields f ∙ ap (λ n. n + 1) b.counted);
   laid = laid_more old new new' b.fields count f b.counted b.laid k;
 }

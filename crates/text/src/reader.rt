@@ -28,11 +28,8 @@ impl<'a> Reader<'a> {
         ensures text { result.text ≡ text.entry }
         ensures at { result.at ≡ min place (length text.now) }
     {
-        let len = text.len();
-        Reader {
-            text,
-            at: if place < len { place } else { len },
-        }
+        let at = place.min(text.len());
+        Reader { text, at }
     }
 
     // Whether no bytes are left, and so no further record.
@@ -72,6 +69,7 @@ impl<'a> Reader<'a> {
 
     // Hands out the next record's fields, as many as there are slots, or refuses and stays where it stands; the slots then
     // hold the fields before the fault.
+    #[tactic(auto, using(crate::proofs::Faulted::at_most_one))]
     pub fn next_record(&mut self, slots: &mut [Field<'a>]) -> Result<(), TextFault>
         ensures same { self.new.text ≡ self.old.text }
         ensures fields { MatchResult result (λ _. Handed self.old.text.now self.old.at slots.new self.new.at) (λ e. ColumnsRefused self.old.text.now self.old.at slots.old slots.new e × (self.new.at ≡ self.old.at)) }
