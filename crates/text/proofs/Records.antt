@@ -42,17 +42,6 @@ pub record Before (s : List ℕ) (from : ℕ) (old new : List Field) (at count :
   pub within : at ≤ length s
   pub fits : from + count ≤ at
 
-pub before_none : (s : List ℕ) (from : ℕ) (slots : List Field) → from ≤ length s → Before s from slots slots from 0
-before_none s from slots w = record {
-  fields = [];
-  counted = refl;
-  laid = refl;
-  taken = λ fs end next h. h;
-  broken = λ fs fault h. h;
-  within = w;
-  fits = omega arith;
-}
-
 past_ge : (q : Bool) (n : ℕ) → n ≤ past q n
 past_ge false n = omega arith
 past_ge true n = omega arith
