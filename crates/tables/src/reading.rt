@@ -26,7 +26,7 @@ pub struct PairReader<'a> {
     reader: Reader<'a>,
 }
 
-// The pair whose numbers the fields write, if both write one.
+// The pair whose numbers the fields write, if both write one. The casts lose nothing: four digits fit.
 fn pair_of(user: &Field, role: &Field) -> Option<Pair>
     ensures { MatchOption result (NoNumber digits user.now.bytes.now ⊎ NoNumber digits role.now.bytes.now) (λ p. Number digits user.now.bytes.now p.user × Number digits role.now.bytes.now p.role) }
 {

@@ -105,3 +105,6 @@ one_cause s columns at fs fs' e e' h k =
     (λ b. ⊎_elim (λ d. one_broken s at fs fs' e e' b d) (λ m. absurd (not_both s columns at _ fs fs' e b m.2)) (cases_cause s columns at fs' e' k))
     (λ m. ⊎_elim (λ d. absurd (not_both s columns at _ fs' fs e' d m.2)) (λ o. m.1 ∙ ap FieldCount (one_end s at _ _ _ _ fs fs' m.2.took o.2.took) ∙ sym o.1) (cases_cause s columns at fs' e' k))
     (cases_cause s columns at fs e h)
+
+pub at_most_one : OneField × OneFault × OneCause
+at_most_one = (one_field, one_fault, one_cause)

@@ -1,7 +1,7 @@
 -- A text has one first line. Assumes nothing.
-use Rattle.std.proofs.Common.{◌≡◌, ℕ, ◌<◌, List, take, ap, ◌∙◌, ⊎_elim, arith}
+use Rattle.std.proofs.Common.{◌≡◌, ℕ, ◌<◌, List, ⊎_elim, arith}
 use Rattle.std.proofs.lemmas.Bool.{cases_order}
-use Rattle.text.specs.FirstLine.{FirstLine, Headed, NotHeaded}
+use Rattle.text.specs.FirstLine.{FirstLine, Headed}
 
 not_before : (s : List ℕ) (i n j m : ℕ) → FirstLine s i n → FirstLine s j m → i < j → ⊥
 not_before s i n j m h k l =
@@ -12,9 +12,6 @@ not_before s i n j m h k l =
 
 pub line_unique : (s : List ℕ) (i n j m : ℕ) → FirstLine s i n → FirstLine s j m → i ≡ j
 line_unique s i n j m h k = ⊎_elim (λ e. e) (λ o. ⊎_elim (λ l. absurd (not_before s i n j m h k l)) (λ l. absurd (not_before s j m i n k h l)) o) (cases_order i j)
-
-pub not_headed : (header s : List ℕ) (i n : ℕ) → FirstLine s i n → (take i s ≡ header → ⊥) → NotHeaded header s
-not_headed header s i n h other next k = other (ap (λ j. take j s) (line_unique s i n k.end next h k.line) ∙ k.same)
 
 next_unique : (s : List ℕ) (i n j m : ℕ) → FirstLine s i n → FirstLine s j m → i ≡ j → n ≡ m
 next_unique s i n j m h k e =

@@ -1,26 +1,13 @@
 -- Where a mark stands, and where a quote closes. Assumes nothing.
-use Rattle.std.proofs.Common.{◌≡◌, ℕ, ◌+◌, ◌-◌, ◌<◌, List, [], ◌∷◌, ◌++◌, length, get_or, take, drop, sym, refl, ap, ◌∙◌, subst, ⊎_elim, append_assoc, append-nil, add-zero, arith, length-append, length-drop}
+use Rattle.std.proofs.Common.{◌≡◌, ℕ, ◌+◌, ◌-◌, ◌<◌, List, [], ◌∷◌, ◌++◌, length, get_or, take, drop, sym, refl, ap, ◌∙◌, subst, ⊎_elim, append_assoc, add-zero, arith, length-append, length-drop}
 use Rattle.std.proofs.lemmas.List.{drop_more, drop_all, drop_at, drop-drop, take_rest, get_or-drop}
 use Rattle.std.proofs.lemmas.Bool.{cases_lt}
 use Rattle.text.specs.declared.field.Mark.{Mark}
 use Rattle.text.specs.declared.field.Mark.TheVariants.{Comma, Line, End}
 use Rattle.text.specs.Grammar.{escape, sign, Ends}
 use Rattle.text.specs.FirstLine.{LineAt}
-use Rattle.text.specs.Scans.{Unclosed, Closes, NoQuote, MarkTo}
+use Rattle.text.specs.Scans.{Closes, NoQuote}
 use Rattle.text.proofs.Contents.{escape_other, escape_append}
-
-pub mark_end : (s : List ℕ) (i : ℕ) → i ≡ length s → MarkTo s i End i
-mark_end s i e = record { split = refl; ends = drop_all i s (omega arith); after = omega arith; within = omega arith }
-
-pub mark_comma : (s : List ℕ) (i : ℕ) → i < length s → get_or s i 0 ≡ 44 → MarkTo s i Comma (i + 1)
-mark_comma s i l e = let d = drop_more s i 0 l in record { split = (cc); ends = tt; after = omega arith; within = omega arith }
-
-pub mark_line : (s : List ℕ) (i : ℕ) → i + 1 < length s → get_or s i 0 ≡ 13 → get_or s (i + 1) 0 ≡ 10 → MarkTo s i Line (i + 2)
-mark_line s i l e f =
-    let d = drop_more s i 0 (omega arith) in
-    let g = drop_more s (i + 1) 0 l in
-    let k : i + 1 + 1 ≡ i + 2 = omega arith in
-    record { split = (cc); ends = tt; after = omega arith; within = omega arith }
 
 -- no mark stands at the head of t
 abbrev pub NoMark : List ℕ → Type 0
@@ -45,9 +32,6 @@ pub record EscapedBefore (s : List ℕ) (from : ℕ) (rest : List ℕ) : Type 0 
   pub content : List ℕ
   pub split : drop from s ≡ escape content ++ rest
 
-pub escaped_none : (s : List ℕ) (from : ℕ) → EscapedBefore s from (drop from s)
-escaped_none s from = record { content = []; split = refl }
-
 escaped_more : (s : List ℕ) (from : ℕ) (rest piece after : List ℕ) (b : ℕ) → EscapedBefore s from rest → escape (b ∷ []) ≡ piece → rest ≡ piece ++ after → EscapedBefore s from after
 escaped_more s from rest piece after b h e k = record {
   content = h.content ++ b ∷ [];
@@ -63,9 +47,6 @@ escaped_quote s from rest h l e f =
     let g : drop 1 rest ≡ get_or rest 1 0 ∷ drop 2 rest = drop_more rest 1 0 l in
     let two : rest ≡ 34 ∷ (34 ∷ drop 2 rest) = cc in
     rw (take_rest rest 2) (escaped_more s from rest (34 ∷ (34 ∷ [])) (drop 2 rest) 34 h refl two)
-
-pub escaped_all : (s : List ℕ) (from : ℕ) (rest : List ℕ) → EscapedBefore s from rest → rest ≡ [] → Unclosed s from
-escaped_all s from rest h e = (h.content, h.split ∙ ap (λ u. escape h.content ++ u) e ∙ append-nil (escape h.content))
 
 -- the first byte of what is left from i on
 pub head_at : (s : List ℕ) (i : ℕ) → get_or (drop i s) 0 0 ≡ get_or s i 0

@@ -11,7 +11,7 @@ use Rattle.text.specs.Grammar.Recorded.{last, more}
 use Rattle.text.specs.Grammar.ReadsTo.{none, next}
 use Rattle.text.specs.Taken.{Took, TookRecord, Bodies, Handed, Skipped}
 use Rattle.text.specs.Taken.TookRecord.{last as took_last, more as took_more}
-use Rattle.text.specs.Faults.{Broken, Miscounted, Cause, ColumnsRefused}
+use Rattle.text.specs.Faults.{Broken, Miscounted, Cause, RecordRefused, ColumnsRefused}
 use Rattle.text.specs.Faults.Broken.{here, later}
 use Rattle.text.specs.Extents.{ReadRecord, BrokenRecord}
 use Rattle.text.specs.Laws.{Unique}
@@ -131,6 +131,9 @@ refused_broken s at old new fault b = record {
   cause = broken_cause s (length old) at b.fields fault b.broken;
   laid = b.laid;
 }
+
+pub record_refused : (s : List ℕ) (at : ℕ) (old new : List Field) (fault : TextFault) → BrokenRecord s at old new fault → RecordRefused s at fault
+record_refused s at old new fault b = record { absent = broken_none s at b.fields fault b.broken; fields = b.fields; cause = b.broken }
 
 pub refused_count : (s : List ℕ) (at : ℕ) (old new : List Field) (x : Extent) → ReadRecord s at old new x → (x.count ≡ length new → ⊥) → ColumnsRefused s at old new (FieldCount x.end)
 refused_count s at old new x h n =

@@ -42,17 +42,6 @@ pub record Before (s : List ℕ) (from : ℕ) (old new : List Field) (at count :
   pub within : at ≤ length s
   pub fits : from + count ≤ at
 
-pub before_none : (s : List ℕ) (from : ℕ) (slots : List Field) → from ≤ length s → Before s from slots slots from 0
-before_none s from slots w = record {
-  fields = [];
-  counted = refl;
-  laid = refl;
-  taken = λ fs end next h. h;
-  broken = λ fs fault h. h;
-  within = w;
-  fits = omega arith;
-}
-
 past_ge : (q : Bool) (n : ℕ) → n ≤ past q n
 past_ge false n = omega arith
 past_ge true n = omega arith
@@ -86,6 +75,7 @@ pub before_done : (s : List ℕ) (from at count end next : ℕ) (old new new' : 
 before_done s from at count end next old new new' f b h n e k = record {
   fields = b.fields ++ f ∷ [];
   took = subst (λ i. TookRecord s from (b.fields ++ f ∷ []) i next) (sym e) (b.taken (f ∷ []) _ next (last h n));
+  within = h.closed.within;
   counted = sym (length_push b.fields f ∙ ap (λ n. n + 1) b.counted);
   laid = laid_more old new new' b.fields count f b.counted b.laid k;
 }

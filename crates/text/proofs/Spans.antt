@@ -1,36 +1,18 @@
 -- A field by its places, and where there is none. Assumes nothing.
-use Rattle.std.proofs.Common.{◌≡◌, ℕ, ◌+◌, ◌-◌, ◌<◌, ◌≤◌, Bool, true, false, List, [], ◌∷◌, ◌++◌, length, get_or, take, drop, sym, refl, ap, ◌∙◌, subst, ⊎_elim, append_assoc, arith, length-append, length-drop}
-use Rattle.std.proofs.lemmas.List.{drop_more, drop_all, take_at}
+use Rattle.std.proofs.Common.{◌≡◌, ℕ, ◌+◌, ◌<◌, Bool, true, false, List, [], ◌∷◌, ◌++◌, length, get_or, drop, sym, refl, ap, ◌∙◌, subst, ⊎_elim, append_assoc, arith}
+use Rattle.std.proofs.lemmas.List.{drop_more, drop_all}
 use Rattle.std.proofs.lemmas.Bool.{cases_eq, cases_lt}
 use Rattle.text.specs.declared.field.Mark.{Mark}
 use Rattle.text.specs.declared.field.Mark.TheVariants.{Comma, Line, End}
 use Rattle.text.specs.declared.field.TextFault.{TextFault}
 use Rattle.text.specs.declared.field.TextFault.TheVariants.{StrayQuote, AfterQuote}
 use Rattle.text.specs.declared.field.Span.{Span}
-use Rattle.text.specs.Grammar.{Plain, AllPlain, escape, written, sign, Ends, Fielded, NoField}
-use Rattle.text.specs.Scans.{NoQuote, PlainTo, Unclosed, Closes, Upto, past, Spans, MarkTo}
-use Rattle.text.specs.Faults.{Wrong}
+use Rattle.text.specs.Grammar.{Plain, AllPlain, escape, written, sign, Ends, NoField}
+use Rattle.text.specs.Scans.{NoQuote, Unclosed, Upto, past, Spans}
+use Rattle.text.specs.Faults.{Wrong, FieldRefused}
 use Rattle.text.specs.Faults.Wrong.{bare, stray, unclosed, extra}
 use Rattle.text.proofs.Contents.{Stopped, plain_unique, escape_unique, escape_open}
 use Rattle.text.proofs.Marks.{NoMark, no_mark, head_at}
-
--- the part of s up to `end` is what stands before the rest
-pub part_is : (s c : List ℕ) (at end : ℕ) → at ≤ end → end ≤ length s → drop at s ≡ c ++ drop end s → take (end - at) (drop at s) ≡ c
-part_is s c at end l w e =
-    let long = ap length e in
-    let parts = length-append c (drop end s) in
-    let a = length-drop at s in
-    let b = length-drop end s in
-    ap (take (end - at)) e ∙ take_at c (drop end s) (end - at) (omega arith)
-
--- how long that part is
-pub part_length : (s c : List ℕ) (at end : ℕ) → at ≤ end → end ≤ length s → drop at s ≡ c ++ drop end s → end ≡ at + length c
-part_length s c at end l w e =
-    let long = ap length e in
-    let parts = length-append c (drop end s) in
-    let a = length-drop at s in
-    let b = length-drop end s in
-    omega arith
 
 pub stopped_at : (s : List ℕ) (i : ℕ) → (i < length s → Plain (get_or s i 0) → ⊥) → Stopped (drop i s)
 stopped_at s i n =
@@ -59,26 +41,9 @@ quote_plain t (b ∷ c) mark rest a e h = let z : b ≡ 34 = cc in a.0.1 z
 pub unquoted : (c : List ℕ) (t : List ℕ) → written true c ++ t ≡ 34 ∷ (escape c ++ 34 ∷ t)
 unquoted c t = ap (λ u. 34 ∷ u) (append_assoc (escape c) (34 ∷ []) t)
 
-pub plain_upto : (s : List ℕ) (at i : ℕ) (h : PlainTo s at i) → NoQuote (drop at s) → (i < length s → Plain (get_or s i 0) → ⊥) → i ≤ length s → Upto s at i false h.0
-plain_upto s at i h n stops w = record { proper = h.1; split = h.2; opens = n; stops = stops; within = w }
-
 module _ (s : List ℕ) (at : ℕ) (within : at < length s) (quote : get_or s at 0 ≡ 34) where
   begins : drop at s ≡ 34 ∷ drop (at + 1) s
   begins = let d = drop_more s at 0 within in cc
-
-  pub quoted_upto : (i : ℕ) (h : Closes s (at + 1) i) → Upto s at (i + 1) true h.content.0
-  quoted_upto i h =
-      let d = drop_more s i 0 h.within in
-      let q = h.quote in
-      let g : drop i s ≡ 34 ∷ drop (i + 1) s = cc in
-      let w = h.within in
-      record {
-        proper = tt;
-        split = begins ∙ ap (λ u. 34 ∷ u) (h.content.1 ∙ ap (λ u. escape h.content.0 ++ u) g) ∙ sym (unquoted h.content.0 (drop (i + 1) s));
-        opens = tt;
-        stops = h.once;
-        within = omega arith;
-      }
 
   pub open_none : Unclosed s (at + 1) → NoField (drop at s)
   open_none h false content mark rest f = quote_plain (drop (at + 1) s) content mark rest f.proper f.ends (sym begins ∙ f.split)
@@ -87,9 +52,6 @@ module _ (s : List ℕ) (at : ℕ) (within : at < length s) (quote : get_or s at
       let p : 34 ∷ escape c ≡ 34 ∷ (escape content ++ 34 ∷ (sign mark ++ rest)) = ap (λ u. 34 ∷ u) (sym h.1) ∙ sym begins ∙ f.split ∙ unquoted content (sign mark ++ rest) in
       let g : escape c ≡ escape content ++ 34 ∷ (sign mark ++ rest) = cc in
       escape_open c content (sign mark ++ rest) (noquote_sign mark rest f.ends) g
-
-pub upto_fielded : (s : List ℕ) (at i next : ℕ) (q : Bool) (c : List ℕ) (mark : Mark) → Upto s at i q c → MarkTo s i mark next → Fielded (drop at s) q c mark (drop next s)
-upto_fielded s at i next q c mark h m = record { proper = h.proper; split = h.split ∙ ap (λ u. written q c ++ u) m.split; ends = m.ends }
 
 -- a field goes up to i and no mark stands there: no field
 upto_none : (s : List ℕ) (at i : ℕ) (q : Bool) (c : List ℕ) → Upto s at i q c → NoMark (drop i s) → NoField (drop at s)
@@ -110,6 +72,9 @@ wrong_none s at _ (stray {i = i} h l e) = upto_none _ _ _ _ _ h (no_mark s i l (
 wrong_none s at _ (unclosed l e h) = open_none s at l e h
 wrong_none s at _ (extra {i = i} h l p) = upto_none _ _ _ _ _ h (no_mark s i l p.0 (λ k. p.2 k.1))
 
+pub field_refused : (s : List ℕ) (at : ℕ) (fault : TextFault) → Wrong s at fault → FieldRefused s at fault
+field_refused s at fault w = record { absent = wrong_none s at fault w; cause = w }
+
 -- the byte that stops an unquoted field and begins no mark is a quote
 pub stop_quote : (s : List ℕ) (i : ℕ) → i < length s → (i < length s → Plain (get_or s i 0) → ⊥) → (get_or s i 0 ≡ 44 → ⊥) → (get_or s i 0 ≡ 13 → ⊥) → (get_or s i 0 ≡ 10 → ⊥) → get_or s i 0 ≡ 34
 stop_quote s i l stops a b d = ⊎_elim (λ e. e) (λ n. absurd (stops l (a, n, b, d))) (cases_eq (get_or s i 0) 34)
@@ -121,13 +86,6 @@ stop_plain s i n a b d = (a, λ e. n (head_at s i ∙ e), b, d)
 -- a span as its parts say it, with the place after its closing quote
 pub span_upto : (s : List ℕ) (at after : ℕ) (p : Span) (h : Spans s at p) → after ≡ past p.quoted p.end → Upto s at after p.quoted h.content
 span_upto s at after p h e = subst (λ i. Upto s at i p.quoted h.content) (sym e) h.upto
-
-past_le : (q : Bool) (n m : ℕ) → past q n ≤ m → n ≤ m
-past_le false n m l = l
-past_le true n m l = omega arith
-
-pub span_within : (s : List ℕ) (at : ℕ) (p : Span) → Spans s at p → p.end ≤ length s
-span_within s at p h = past_le p.quoted p.end (length s) h.upto.within
 
 -- which fault stands where no mark does
 pub fault_quoted : (s : List ℕ) (at after : ℕ) (q : Bool) (c : List ℕ) → Upto s at after q c → q ≡ true → after < length s → (get_or s after 0 ≡ 44 → ⊥) → (get_or s after 0 ≡ 13 → ⊥) → (get_or s after 0 ≡ 10 → ⊥) → Wrong s at (AfterQuote after)

@@ -1,13 +1,13 @@
 -- A walk over a text, record after record. Assumes nothing.
-use Rattle.std.proofs.Common.{◌≡◌, ℕ, ◌+◌, ◌<◌, ◌≤◌, false, eqb, List, [], ◌∷◌, ◌++◌, length, drop, sym, refl, ap, ◌∙◌, subst, arith, length-drop}
-use Rattle.std.proofs.lemmas.List.{drop_all, length_push}
+use Rattle.std.proofs.Common.{◌≡◌, ℕ, ◌+◌, ◌<◌, ◌≤◌, false, eqb, List, [], ◌∷◌, ◌++◌, length, drop, sym, refl, ap, ◌∙◌, arith, length-drop}
+use Rattle.std.proofs.lemmas.List.{length_push}
 use Rattle.std.proofs.lemmas.Bool.{eqb-false}
 use Rattle.text.specs.declared.field.TextFault.{TextFault}
 use Rattle.text.specs.Grammar.{ReadsTo}
 use Rattle.text.specs.Grammar.ReadsTo.{none}
 use Rattle.text.specs.Taken.{Skipped}
 use Rattle.text.specs.Faults.{RecordRefused}
-use Rattle.text.specs.Walks.{Counted, FirstWrong}
+use Rattle.text.specs.Walks.{FirstWrong}
 use Rattle.text.proofs.Records.{record_later, took_within}
 use Rattle.text.proofs.Once.{reads_push, reads_stuck}
 
@@ -42,13 +42,6 @@ walked_more text at count n next l w h =
       few = omega (arith, w.few, skipped_later text at n next l h);
       within = took_within text at r.end next h.fields r.took;
     }
-
-pub walked_all : (text : List ℕ) (at count : ℕ) → length text ≤ at → Walked text at count → Counted text count
-walked_all text at count l w = record {
-  records = w.before;
-  reading = subst (ReadsTo text w.before) (drop_all at text l) w.reads;
-  count = sym w.counted;
-}
 
 pub walked_wrong : (text : List ℕ) (at count : ℕ) (fault : TextFault) → at < length text → Walked text at count → RecordRefused text at fault → FirstWrong text record { number = count + 1; fault = fault }
 walked_wrong text at count fault l w h = record {

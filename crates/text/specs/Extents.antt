@@ -1,5 +1,5 @@
 -- A record that was read as far as it goes, its fields kept in slots.
-use Rattle.std.specs.Prelude.{◌≡◌, ℕ, List, length}
+use Rattle.std.specs.Prelude.{◌≡◌, ℕ, ◌≤◌, List, length}
 use Rattle.text.specs.declared.field.Field.{Field}
 use Rattle.text.specs.declared.field.TextFault.{TextFault}
 use Rattle.text.specs.declared.record.Extent.{Extent}
@@ -10,6 +10,7 @@ use Rattle.text.specs.Faults.{Broken}
 pub record ReadRecord (text : List ℕ) (from : ℕ) (old new : List Field) (x : Extent) : Type 0 where
   pub fields : List Field
   pub took : TookRecord text from fields x.end x.next
+  pub within : x.next ≤ length text
   pub counted : x.count ≡ length fields
   pub laid : new ≡ overlay fields old
 

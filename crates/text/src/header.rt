@@ -16,7 +16,8 @@ fn first_line(text: &[u8]) -> (usize, usize)
     }
 }
 
-// The place where the records begin, if the bytes before the first CR LF, or all, are the header.
+// The place where the records begin, if the bytes before the first CR LF, or all, are the header. Not by `strip_prefix`: a
+// header with a CR LF in it heads no text.
 pub fn header_end(text: &[u8], header: &[u8]) -> Option<usize>
     ensures { MatchOption result (NotHeaded header.now text.now) (λ at. Headed header.now text.now at × (at ≤ length text.now)) }
 {

@@ -6,4 +6,5 @@ pub mod header;
 pub mod number;
 pub mod reader;
 mod record;
+mod scan;
 pub mod walk;

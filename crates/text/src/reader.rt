@@ -4,7 +4,7 @@ ghost use Rattle.text.specs.Taken.{Took, Handed, Skipped};
 ghost use Rattle.text.specs.Laws.{OneField, OneFault, OneCause};
 ghost use Rattle.text.specs.Faults.{FieldRefused, RecordRefused, ColumnsRefused};
 
-use crate::field::{Field, TextFault};
+use crate::field::{Field, Span, TextFault};
 
 // A reader over lent bytes, and the place where it stands.
 #[derive(Clone, Copy)]
@@ -28,11 +28,8 @@ impl<'a> Reader<'a> {
         ensures text { result.text ≡ text.entry }
         ensures at { result.at ≡ min place (length text.now) }
     {
-        let len = text.len();
-        Reader {
-            text,
-            at: if place < len { place } else { len },
-        }
+        let at = place.min(text.len());
+        Reader { text, at }
     }
 
     // Whether no bytes are left, and so no further record.
@@ -47,13 +44,32 @@ impl<'a> Reader<'a> {
         ensures same { self.new.text ≡ self.old.text }
         ensures field { MatchResult result (λ f. Took self.old.text.now self.old.at f self.new.at) (λ e. FieldRefused self.old.text.now self.old.at e × (self.new.at ≡ self.old.at)) }
     {
-        let (field, next) = self.field()?;
-        self.at = next;
-        Ok(field)
+        let text = self.text;
+        let span = self.span()?;
+        let Span { quoted, start, end } = span;
+        let after = span.past_quote();
+        let stop = Reader { text, at: after };
+        if let Some((mark, next)) = stop.mark() {
+            self.at = next;
+            let bytes = &text[start..end];
+            return Ok(Field {
+                bytes,
+                start,
+                end,
+                quoted,
+                mark,
+            });
+        }
+        match text[after] {
+            b'\r' | b'\n' => Err(TextFault::BareLineEnd(after)),
+            _ if quoted => Err(TextFault::AfterQuote(after)),
+            _ => Err(TextFault::StrayQuote(after)),
+        }
     }
 
     // Hands out the next record's fields, as many as there are slots, or refuses and stays where it stands; the slots then
     // hold the fields before the fault.
+    #[tactic(auto, using(crate::proofs::Faulted::at_most_one))]
     pub fn next_record(&mut self, slots: &mut [Field<'a>]) -> Result<(), TextFault>
         ensures same { self.new.text ≡ self.old.text }
         ensures fields { MatchResult result (λ _. Handed self.old.text.now self.old.at slots.new self.new.at) (λ e. ColumnsRefused self.old.text.now self.old.at slots.old slots.new e × (self.new.at ≡ self.old.at)) }

@@ -13,7 +13,8 @@ pub(crate) struct Extent {
     pub(crate) next: usize,
 }
 
-// Keeps a record's field number `i`, if there is a slot for it.
+// Keeps a record's field number `i`, if there is a slot for it: by index, since a proof knows no element that is written
+// through what `get_mut` lends.
 fn keep<'a>(slots: &mut [Field<'a>], i: usize, field: Field<'a>)
     ensures { slots.new ≡ slice_set slots.old i field.entry }
 {

@@ -15,6 +15,7 @@ pub struct WrongRecord {
 }
 
 // The number of records in the text, whatever their number of fields, or the first wrong one.
+#[tactic(auto, using(crate::proofs::Once::reading_unique))]
 pub fn count_records(text: &[u8]) -> Result<usize, WrongRecord>
     ensures count { MatchResult result (λ n. Counted text.now n) (λ w. FirstWrong text.now w) }
     ensures unique { Unique }
@@ -43,6 +44,7 @@ pub struct Walk<'a> {
 
 impl<'a> Walk<'a> {
     // A walk that begins at the text's first byte.
+    #[tactic(auto, using(crate::proofs::Whole::whole_walk))]
     pub fn new(text: &'a [u8]) -> Walk<'a>
         ensures text { result.reader.text ≡ text.entry }
         ensures start { (result.reader.at ≡ 0) × (result.inside ≡ false) }

@@ -1,17 +1,12 @@
 use Rattle.std.proofs.Common.{refl}
 use Rattle.std.proofs.lemmas.Result.{err_from_is_err_and}
-use Rattle.text.proofs.Records.{took_within}
-use Rattle.text.proofs.Once.{broken_none, skipped}
+use Rattle.text.proofs.Once.{record_refused, skipped}
 use Rattle.text.proofs.reader.Reader.skip_record.Goals as goal
 
-pub returns-in_err-extent : goal.returns-in_err-extent
-returns-in_err-extent c =
+pub returns-in_err-extent-clause-count : goal.returns-in_err-extent-clause-count
+returns-in_err-extent-clause-count c =
     let p = err_from_is_err_and c.from_residual.result c.from_residual.ensures.1 in
-    let b = c.in_err-extent.ensures in
-    record { same = refl; count = rw (p.1, p.2) (record { absent = broken_none _ _ _ _ b.broken; fields = b.fields; cause = b.broken }, refl) }
+    rw (p.1, p.2) (record_refused _ _ _ _ _ c.in_err-extent.ensures, refl)
 
-pub invariant_of-self : goal.invariant_of-self
-invariant_of-self c = record { within = took_within _ _ _ _ _ c.in_ok-extent.ensures.took }
-
-pub returns : goal.returns
-returns c = record { same = refl; count = skipped _ _ _ _ _ c.in_ok-extent.ensures }
+pub returns-clause-count : goal.returns-clause-count
+returns-clause-count c = skipped _ _ _ _ _ c.in_ok-extent.ensures
