@@ -51,7 +51,7 @@ impl fmt::Display for Shown<'_> {
     }
 }
 
-// A fault, and its place.
+// A fault, and its place: the derived `Debug` would print brackets.
 #[derive(Clone, Copy)]
 struct Fault(TextFault);
 
@@ -68,6 +68,7 @@ impl fmt::Display for Fault {
 }
 
 // All fields of a text, one by one, up to its end or the first fault.
+// A loop over the walk, which is no iterator: it may be asked again after a fault, and stays where it stands.
 #[derive(Clone, Copy)]
 pub(crate) struct Fields<'a>(pub(crate) &'a [u8]);
 

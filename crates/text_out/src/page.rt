@@ -5,6 +5,7 @@ ghost use Rattle.text_out.specs.Written.{further, line, header_line, table};
 ghost use Rattle.text_out.specs.Pages.{Room, Appended};
 
 // A lent buffer, and where the next byte goes.
+// How much room it has to have depends on what is stored next, so each store asks for it: no invariant of the page says it.
 #[derive(Drop)]
 pub(crate) struct Page<'a> {
     pub(crate) buffer: &'a mut [u8],
