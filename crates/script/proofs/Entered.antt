@@ -2,7 +2,7 @@
 use Rattle.std.proofs.Common.{◌≡◌, ℕ, ◌+◌, ◌<◌, ◌≤◌, Bool, true, List, [], ◌∷◌, ◌++◌, length, get_or, take, codes, decimal, sym, refl, ap, ◌∙◌, append_assoc, append-nil}
 use Rattle.std.specs.declared.fmt.Formatter.{Formatter}
 use Rattle.std.specs.Fmt.{IsPlainFormatter, HasWritten}
-use Rattle.std.proofs.Output.{writes_in_calls_nil, has_written_append, has_written_of_eq}
+use Rattle.std.proofs.Output.{has_written_append, has_written_of_eq}
 use Rattle.std.proofs.lemmas.List.{take_more, take_all}
 use Rattle.script.specs.declared.fields.Place.{Place}
 use Rattle.script.specs.Entries.{opening, place_text, entries, list_text}
@@ -27,9 +27,6 @@ pub opens_more : (ps : List Place) (i : ℕ) (d : Place) → i < length ps → (
 opens_more ps i d l = sym (ap (opens true) (take_more ps i d l) ∙ opens_push true (take i ps) (get_or ps i d))
 
 module _ {W : Type 0} (took : W → List ℕ → W → Type 0) where
-  pub none_entered : (f : Formatter W) → IsPlainFormatter f → HasWritten took f [] f
-  none_entered f p = record { wrote = writes_in_calls_nil took f.writer; plain = p }
-
   -- one place on
   pub entered_more : (f g h : Formatter W) (ps : List Place) (i : ℕ) (o : List ℕ) (d : Place) → i < length ps → o ≡ opening (opens true (take i ps)) → (IsPlainFormatter f → HasWritten took f (entries true (take i ps)) g) → (IsPlainFormatter g → HasWritten took g (o ++ place_text (get_or ps i d)) h) → IsPlainFormatter f → HasWritten took f (entries true (take (i + 1) ps)) h
   entered_more f g h ps i o d l e before now plain =

@@ -1,7 +1,7 @@
 -- The members that words name. Assumes nothing.
-use Rattle.std.proofs.Common.{◌≡◌, ℕ, zero, suc, ◌+◌, ◌^◌, ◌<◌, ◌≤◌, ◌⊎◌, ◌↔◌, List, [], ◌∷◌, length, get_or, drop, sym, ap, subst, inl, inr, arith, Bor}
+use Rattle.std.proofs.Common.{◌≡◌, ℕ, zero, suc, ◌+◌, ◌^◌, ◌<◌, ◌⊎◌, ◌↔◌, List, [], ◌∷◌, length, get_or, drop, sym, ap, subst, inl, inr, arith, Bor}
 use lib.Bits.{bit_or}
-use Rattle.std.proofs.lemmas.List.{drop_more, drop_all}
+use Rattle.std.proofs.lemmas.List.{drop_more}
 use Rattle.terms.specs.Sets.{In}
 use Rattle.terms.proofs.Bits.{in_or, in_or_l, in_or_r, in_one, in_one_only}
 use Rattle.script.specs.Words.{Writes, Names, AllMembers}
@@ -42,10 +42,3 @@ turn ws i d set m l w inv k =
         ]
       ],
     )
-
--- all words
-pub at_end : (ws : List Word) (i set : ℕ) → length ws ≤ i → ((k : ℕ) → (In k set ⊎ Names (drop i ws) k) ↔ Names ws k) → (k : ℕ) → In k set ↔ Names ws k
-at_end ws i set l inv k = (
-  λ h. (inv k).0 (inl h),
-  λ h. elim ((inv k).1 h) [ inl a ↦ a | inr b ↦ absurd (subst (λ us. Names us k) (drop_all i ws l) b) ],
-)

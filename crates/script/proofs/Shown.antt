@@ -2,7 +2,7 @@
 use Rattle.std.proofs.Common.{◌≡◌, ℕ, ◌+◌, true, cond, List, [], ◌∷◌, ◌++◌, decimal, sym, ap, ◌∙◌, add-one}
 use Rattle.std.specs.declared.fmt.Formatter.{Formatter}
 use Rattle.std.specs.Fmt.{IsPlainFormatter, HasWritten}
-use Rattle.std.proofs.Output.{writes_in_calls_nil, has_written_append, has_written_of_eq}
+use Rattle.std.proofs.Output.{has_written_append, has_written_of_eq}
 use Rattle.std.proofs.lemmas.Bool.{eq-eqb, ne_eqb}
 use Rattle.terms.specs.Sets.{bit, In}
 use Rattle.script.specs.Printing.{some_below, gap, listed, set_text}
@@ -20,10 +20,6 @@ pub below_out : (i w : ℕ) → (In i w → ⊥) → some_below (i + 1) w ≡ so
 below_out i w h = ap (λ n. some_below n w) (add-one i) ∙ ap (λ t. cond t true (some_below i w)) (ne_eqb (bit w i) 1 h)
 
 module _ {W : Type 0} (took : W → List ℕ → W → Type 0) where
-  -- before the first member
-  pub none_yet : (f : Formatter W) → IsPlainFormatter f → HasWritten took f [] f
-  none_yet f p = record { wrote = writes_in_calls_nil took f.writer; plain = p }
-
   -- one member on
   pub one_more : (f g h : Formatter W) (i w : ℕ) (part : List ℕ) → In i w → part ≡ gap (some_below i w) ++ decimal i → (IsPlainFormatter f → HasWritten took f (listed i w) g) → (IsPlainFormatter g → HasWritten took g part h) → IsPlainFormatter f → HasWritten took f (listed (i + 1) w) h
   one_more f g h i w part m e before now p =

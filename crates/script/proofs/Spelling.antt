@@ -1,8 +1,7 @@
 -- A typed text stands for at most one row of bytes, byte after byte. Assumes nothing.
-use Rattle.std.proofs.Common.{◌≡◌, ℕ, ◌+◌, ◌-◌, ◌<◌, ◌≤◌, List, [], ◌∷◌, ◌++◌, length, get_or, drop, add-zero, length-drop, IfOk, Some, None, Ok, Err, Option, Result, sym, refl, ap, ◌∙◌, subst, inl, inr, append_assoc, arith, Bor, MatchOption}
-use mathlib.Core.List.{append_cancel_right}
+use Rattle.std.proofs.Common.{◌≡◌, ℕ, ◌+◌, ◌-◌, ◌<◌, ◌≤◌, List, [], ◌∷◌, ◌++◌, length, get_or, drop, add-zero, length-drop, Some, None, Option, sym, refl, ap, ◌∙◌, subst, inl, inr, append_assoc, arith, Bor, MatchOption}
 use Rattle.std.proofs.lemmas.List.{get_or_past, get_or-drop}
-use Rattle.script.specs.Literals.{HexDigit, ShortEscape, UnitAt, FirstUnit, Spells, Quoted, Literal}
+use Rattle.script.specs.Literals.{HexDigit, ShortEscape, UnitAt, FirstUnit, Spells, Quoted}
 use Rattle.script.specs.Literals.Spells.{none, more}
 
 -- nothing is typed where the two ways after a backslash both fail
@@ -98,12 +97,3 @@ spells_more ts done s after b f before bytes h = subst (λ l. Spells ts 0 l) (sy
 pub opened_inside : (typed opened : List ℕ) (r : Option (Bor (List ℕ))) → typed ≡ 34 ∷ opened → MatchOption r ((front : List ℕ) → opened ≡ front ++ (34 ∷ []) → ⊥) (λ x. opened ≡ x.now ++ (34 ∷ [])) → MatchOption r ((inner : List ℕ) → Quoted typed inner → ⊥) (λ x. Quoted typed x.now)
 opened_inside typed opened None e not_ended = λ inner q. not_ended inner (let g : 34 ∷ opened ≡ 34 ∷ (inner ++ (34 ∷ [])) = sym e ∙ q in cc)
 opened_inside typed opened (Some x) e ended = e ∙ ap (λ l. 34 ∷ l) ended
-
--- a text in quotes stands for what is inside
-pub quoted_whole : {V E : Type 0} (items : V → List ℕ) (typed inner : List ℕ) (r : Result (Option V) E) → Quoted typed inner → IfOk r (λ o. MatchOption o ((bytes : List ℕ) → Spells inner 0 bytes → ⊥) (λ v. Spells inner 0 (items v))) → IfOk r (λ o. MatchOption o ((bytes : List ℕ) → Literal typed bytes → ⊥) (λ v. Literal typed (items v)))
-quoted_whole items typed inner (Ok (Some v)) q s = record { inner = inner; quoted = q; spells = s }
-quoted_whole items typed inner (Ok None) q no_bytes = λ bytes h.
-    let g : 34 ∷ (h.inner ++ (34 ∷ [])) ≡ 34 ∷ (inner ++ (34 ∷ [])) = sym h.quoted ∙ q in
-    let f : h.inner ++ (34 ∷ []) ≡ inner ++ (34 ∷ []) = cc in
-    no_bytes bytes (subst (λ l. Spells l 0 bytes) (append_cancel_right h.inner inner (34 ∷ []) f) h.spells)
-quoted_whole items typed inner (Err e) q s = tt

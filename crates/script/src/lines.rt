@@ -26,7 +26,7 @@ pub fn next_line(script: &[u8]) -> Option<(&[u8], &[u8])>
         return None;
     }
     match first_lf(script) {
-        Some(i) => Some((without_cr(&script[0..i]), &script[i + 1..])),
+        Some(i) => Some((without_cr(&script[..i]), &script[i + 1..])),
         None => Some((script, &[])),
     }
 }

@@ -5,7 +5,7 @@ use Rattle.terms.specs.Sets.{In}
 use Rattle.terms.proofs.Bits.{none_in}
 use Rattle.script.specs.Words.{Names}
 use Rattle.script.proofs.Numbers.{one_number}
-use Rattle.script.proofs.Naming.{member_at, turn, at_end}
+use Rattle.script.proofs.Naming.{member_at, turn}
 use Rattle.script.proofs.words.members.Goals as goal
 
 pub loop-word-init : goal.loop-word-init
@@ -31,6 +31,3 @@ loop-word-preserved c =
     let more : c.with_member-set.result ≡ bit_or c.loop-word.set (2 ^ m) = c.with_member-set.ensures ∙ ap (λ t. cond t (bit_or c.loop-word.set (2 ^ m)) c.loop-word.set) (lt-ltb m 64 (omega arith)) in
     let next = turn ws i _ c.loop-word.set m (omega arith) c.in_ok-member.ensures c.loop-word.invariant in
     subst (λ set. (k : ℕ) → (In k set ⊎ Names (drop (i + 1) ws) k) ↔ Names ws k) (sym more) next
-
-pub returns : goal.returns
-returns c = at_end c.args.words.now c.loop-word.word-index c.loop-word.set (omega arith) c.loop-word.invariant
