@@ -1,15 +1,21 @@
 -- The bounds that limits set on what a user can hold. Assumes nothing.
-use Rattle.std.proofs.Common.{◌≡◌, ℕ, ◌+◌, ◌-◌, ◌*◌, ◌<◌, ◌≤◌, ◌⊎◌, get_or, sym, subst, inl, inr, le_trans, mul-le-mul_right, arith}
+use Rattle.std.proofs.Common.{◌≡◌, ℕ, ◌+◌, ◌-◌, ◌*◌, ◌^◌, ◌<◌, ◌≤◌, ◌⊎◌, get_or, w64, sym, subst, inl, inr, le_trans, mul-le-mul_right, arith}
 use lib.Bits.{bit_and, bit_or}
 use lib.Count.{ones}
-use Rattle.terms.specs.Sets.{In, Within, Difference}
-use Rattle.terms.proofs.Bits.{in_and, in_both, in_or, cut}
+use Rattle.std.proofs.lemmas.Nat.Bits.{bit_at_not}
+use Rattle.terms.specs.Sets.{bit, In, Within, Difference}
+use Rattle.terms.proofs.Bits.{in_and, in_both, in_or, cut, bit_off}
 use Rattle.terms.proofs.Unions.{union_in, union_of}
 use Rattle.terms.proofs.Sizes.{ones_none, ones_mono, ones_apart, ones_either, ones_rows}
 use Rattle.plan.specs.Authority.{Granted, authorised, held, constraint_count, constraint_at}
 use Rattle.plan.specs.declared.Plan.{Plan}
 use Rattle.plan.specs.declared.Constraint.{Constraint}
 use Rattle.holding.specs.Search.{Holder, fresh}
+
+-- who is not a member is one of the others
+pub in_others : (w a : ℕ) → w < 2 ^ 64 → a < 64 → (In a w → ⊥) → In a (18446744073709551615 - w)
+unfolding bit
+in_others w a l b n = omega (arith, bit_at_not w64 w a l b, bit_off w a n)
 
 pub fresh_none : (all old : ℕ) → ones (fresh all 0 old) ≡ 0
 fresh_none all old = omega (arith, ones_none, ones_mono (fresh all 0 old) 0 (λ k h. (in_and all 0 k ((cut (bit_and all 0) old).inside k h)).1))

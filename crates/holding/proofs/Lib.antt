@@ -1,4 +1,3 @@
 pub mod Holders
 pub mod Bounds
 pub mod Made
-pub mod Items

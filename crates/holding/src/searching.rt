@@ -69,10 +69,7 @@ impl<'a> Sought<'a> {
         let Some(k) = lowest(self.urgent()) else {
             return Some(self.word);
         };
-        if self.beyond() {
-            return None;
-        }
-        if self.together() {
+        if self.beyond() || self.together() {
             return None;
         }
         for (r, gain) in self.survey.gains.iter().enumerate() {

@@ -6,7 +6,7 @@ ghost use Rattle.holding.specs.Tables.{Gains, Outside};
 use super::Survey;
 use plan::Plan;
 use std::array;
-use terms::sets::{PermissionSet, RoleSet, contains};
+use terms::sets::{Members, PermissionSet, RoleSet};
 
 // What each role holds by itself.
 fn gains(plan: &Plan) -> [PermissionSet; 64]
@@ -19,12 +19,9 @@ fn gains(plan: &Plan) -> [PermissionSet; 64]
 pub(crate) fn elsewhere(plan: &Plan, roles: RoleSet) -> PermissionSet
     ensures { (a k : ℕ) → Granted plan.now a k → In a roles ⊎ In k result }
 {
-    let mut all: u64 = 0;
-    // by number: the set is asked for it as well as the plan
-    for a in 0u32..64 {
-        if !contains(roles, a) {
-            all |= plan.granted(a);
-        }
+    let mut all = 0;
+    for a in Members::of(!roles) {
+        all |= plan.granted(a);
     }
     all
 }

@@ -1,6 +1,5 @@
 -- From the fewest users to enforcement, and back. Assumes nothing.
-use Rattle.std.proofs.Common.{◌≡◌, ℕ, ◌<◌, ◌≤◌, cond, ltb, List, [], ◌∷◌, length, Some, None, Option, subst, arith, length-take, MatchOption}
-use Rattle.plan.proofs.Tables.{some_at, none_at}
+use Rattle.std.proofs.Common.{◌≡◌, ℕ, ◌<◌, ◌≤◌, List, [], ◌∷◌, length, Option, subst, arith, length-take, MatchOption}
 use Rattle.plan.specs.Authority.{policy_count, policy_at, AllSatisfy}
 use Rattle.plan.specs.Enforcing.{Among, nobody, left_out, chosen, Enforces, Enforced, Breachable}
 use Rattle.plan.specs.declared.Plan.{Plan}
@@ -43,14 +42,6 @@ module _ (p : Plan) where
           fewest = λ all s ws a c. found.least ws (record { satisfy = some_satisfy a s; whole = c });
           rest = us.empty;
         }
-
-  -- a policy read from a plan that is p
-  module _ (i : ℕ) (low : i < policy_count p) (p' : Plan) where
-    pub policy_some : (q : Policy) → p' ≡ p → Some q ≡ cond (ltb i (policy_count p')) (Some (policy_at p' i)) None → q ≡ policy_at p i
-    policy_some q e h = some_at i (policy_count p) (policy_at p i) q low (subst (λ (x : Plan). Some q ≡ cond (ltb i (policy_count x)) (Some (policy_at x i)) None) e h)
-
-    pub policy_none : {A : Type 0} → p' ≡ p → None ≡ cond (ltb i (policy_count p')) (Some (policy_at p' i)) None → A
-    policy_none e h = none_at i (policy_count p) (policy_at p i) low (subst (λ (x : Plan). None ≡ cond (ltb i (policy_count x)) (Some (policy_at x i)) None) e h)
 
   pub unbreachable : Enforced p → Breachable p → ⊥
   unbreachable e b = e b.policy b.numbered b.breach.assignment b.breach.satisfies b.breach.users b.breach.among b.breach.few b.breach.covered

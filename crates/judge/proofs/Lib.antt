@@ -1,4 +1,3 @@
 pub mod Shares
 pub mod Memories
-pub mod Items
 pub mod Judgements

@@ -7,7 +7,7 @@ ghost use Rattle.judge.specs.Memory.{MemoRight};
 use super::memo::{Memo, Single};
 use super::users::Users;
 use holding::Survey;
-use terms::sets::{PermissionSet, contains, difference, lowest};
+use terms::sets::{Members, PermissionSet, contains, difference, lowest};
 
 // A search for users of one plan: what was surveyed of it, and what has been found out of it. The sets are looked up by
 // their members in `all`.
@@ -21,16 +21,9 @@ pub struct Search<'a> {
 
 // The slot of a set of permissions: its bits at the permissions of `all`, up to sixteen of them, drawn together.
 fn slot(all: PermissionSet, held: PermissionSet) -> usize {
-    let mut i: u64 = 0;
-    let mut rest = all;
-    for _ in 0..16 {
-        if rest > 0 {
-            let k = rest.trailing_zeros();
-            i = (i & 32767) * 2 + contains(held, k) as u64;
-            rest = rest & (rest - 1);
-        }
-    }
-    (i & 65535) as usize
+    Members::of(all)
+        .take(16)
+        .fold(0, |i, k| (i & 32767) * 2 + contains(held, k) as usize)
 }
 
 impl<'a> Search<'a> {
@@ -133,8 +126,8 @@ impl<'a> Search<'a> {
         ensures answer { result ≡ true → (ws : List ℕ) → Covers self.old.survey.now.plan.now wanted ws → ⊥ }
         ensures same { self.new.survey.now ≡ self.old.survey.now }
     {
-        for k in 0u32..64 {
-            if contains(wanted, k) && !self.holdable(1u64 << k) {
+        for k in Members::of(wanted) {
+            if !self.holdable(1u64 << k) {
                 return true;
             }
         }

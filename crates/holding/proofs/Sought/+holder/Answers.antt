@@ -4,13 +4,19 @@ use Rattle.std.proofs.lemmas.Nat.{one_shl}
 use Rattle.terms.specs.Sets.{In}
 use Rattle.holding.proofs.Holders.{holder_kept, holder_done, holder_take, holder_drop, holder_none, own_grant}
 use Rattle.holding.proofs.Sought.+holder.Goals as goal
-use Rattle.holding.proofs.Sought.+holder.Goals.{then-contains+in_default-holder, else-contains}
+use Rattle.holding.proofs.Sought.+holder.Goals.{then-beyond-via-then-beyond, then-beyond-via-else-beyond+then-together, then-contains+in_default-holder, else-contains}
 
 pub returns-then-not-satisfies : goal.returns-then-not-satisfies
 returns-then-not-satisfies t c w h = false≢true (c.if-not-satisfies.ensures.1 (holder_kept _ _ _ w h))
 
 pub returns-in_default : goal.returns-in_default
 returns-in_default t c = holder_done _ _ _ (c.urgent.ensures.some c.in_default.ensures) (c.if-not-satisfies.ensures.0 refl)
+
+pub returns-then-beyond : goal.returns-then-beyond
+returns-then-beyond t c = elim c.then-beyond.branch [
+  | then-beyond-via-then-beyond v ↦ c.beyond.ensures v.if-beyond.true
+  | then-beyond-via-else-beyond+then-together v ↦ v.together.ensures v.if-together.true
+]
 
 pub holder-requires : goal.holder-requires
 holder-requires t c =

@@ -5,8 +5,8 @@ use Rattle.std.proofs.lemmas.Bool.{cases_eq}
 use Rattle.std.proofs.lemmas.Slice.Zip.{zip_turn}
 use Rattle.terms.specs.Sets.{bit, In}
 use Rattle.plan.specs.Authority.{authorised, constraint_count, constraint_at}
+use Rattle.plan.specs.Limits.{constraint_in}
 use Rattle.holding.proofs.Bounds.{room, fresh_limit, fresh_bound}
-use Rattle.holding.proofs.Items.{item_low, item_at}
 use Rattle.holding.proofs.Sought.beyond.Goals as goal
 
 pub returns-then-here-slack : goal.returns-then-here-slack
@@ -18,8 +18,8 @@ returns-then-here-slack c _ w h =
     let d = c.in-Some.c.now in
     let slack = c.slack.result in
     let t = zip_turn items u.survey.now.outside c.loop-c.yielded c.into_iter-c-iterator.result c.loop-c.c-iterator c.next.new.self c.next.result (cc) (cc) c.loop-c.yielded_by _ c.in-Some.is c.next.ensures.steps in
-    let low : i < constraint_count p = item_low p items i c.constraints.ensures t.0 in
-    let is : d ≡ constraint_at p i = t.2 (record { roles = 0; limit = 0 }) ∙ item_at p items i c.constraints.ensures t.0 in
+    let low : i < constraint_count p = omega (arith, t.0, ap length c.constraints.ensures) in
+    let is : d ≡ constraint_at p i = t.2 (record { roles = 0; limit = 0 }) ∙ ap (λ xs. constraint_in xs i) c.constraints.ensures in
     let roles = (constraint_at p i).roles in
     let e : slack ≡ d.limit - 1 - ones (bit_and (authorised p u.word) d.roles) = omega (arith, c.slack.ensures, ap (λ x. ones (bit_and x d.roles)) u.whole) in
     let few = fresh_bound p u.word u.wanted w h roles slack c.difference-open.result c.in-Some.apart.now c.difference-here.result c.most-each.result

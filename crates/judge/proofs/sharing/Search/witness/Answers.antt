@@ -1,8 +1,8 @@
-use Rattle.std.proofs.Common.{◌≡◌, ap, ◌∙◌, below_more}
+use Rattle.std.proofs.Common.{◌≡◌, ap, ◌∙◌, below_more, length, arith}
 use Rattle.holding.specs.declared.Survey.{Survey}
 use Rattle.plan.specs.Authority.{policies_of}
+use Rattle.plan.specs.Limits.{policy_in}
 use Rattle.plan.specs.Enforcing.{Enforces}
-use Rattle.judge.proofs.Items.{item_low, item_at}
 use Rattle.judge.proofs.Judgements.{enforces, policy_most, witnessed}
 use Rattle.judge.proofs.sharing.Search.witness.Goals as goal
 
@@ -12,7 +12,7 @@ returns-in-Some c =
     let i = c.loop-i.i in
     let items = c.policies-policy-items.result.now in
     let same : items ≡ policies_of p = c.policies-policy-items.ensures ∙ ap policies_of (c.plan-plan.ensures ∙ ap (λ (s : Survey). s.plan.now) c.survey.ensures) in
-    witnessed p i _ (item_at p items i same c.loop-i-test.true) c.in-Some.found (item_low p items i same c.loop-i-test.true) c.loop-i.invariant.lower (rw c.loop-i.invariant.same at c.in-Some.ensures.answer)
+    witnessed p i _ (ap (λ xs. policy_in xs i) same) c.in-Some.found (omega (arith, c.loop-i-test.true, ap length same)) c.loop-i.invariant.lower (rw c.loop-i.invariant.same at c.in-Some.ensures.answer)
 
 pub loop-i-preserved : goal.loop-i-preserved
 loop-i-preserved c =
@@ -22,6 +22,6 @@ loop-i-preserved c =
     let same : items ≡ policies_of p = c.policies-policy-items.ensures ∙ ap policies_of (c.plan-plan.ensures ∙ ap (λ (s : Survey). s.plan.now) c.survey.ensures) in
     record {
       lower = below_more (Enforces p) i c.loop-i.invariant.lower
-          (enforces p i (policy_most p i _ (item_at p items i same c.loop-i-test.true) (rw c.loop-i.invariant.same at c.in_default.ensures.answer)));
+          (enforces p i (policy_most p i _ (ap (λ xs. policy_in xs i) same) (rw c.loop-i.invariant.same at c.in_default.ensures.answer)));
       same = c.fewest_users.ensures.same ∙ c.loop-i.invariant.same;
     }
