@@ -1,23 +1,24 @@
 -- Setting and taking away flags, and reading a row flag after flag. Assumes nothing.
-use Rattle.std.proofs.Common.{◌≡◌, ℕ, ◌+◌, ◌*◌, ◌/◌, ◌^◌, ◌<◌, ◌≤◌, min, Bool, true, false, cond, ltb, List, map, length, get_or, drop, set, replicate, sym, ap, ◌∙◌, subst, inl, inr, arith}
+use Rattle.std.proofs.Common.{◌≡◌, ℕ, ◌+◌, ◌*◌, ◌/◌, ◌%◌, ◌^◌, ◌<◌, ◌≤◌, min, Bool, true, false, cond, ltb, ◌⊎◌, List, [], ◌∷◌, ◌++◌, zero, suc, map, length, get_or, take, drop, set, replicate, count_by, refl, sym, ap, ◌∙◌, subst, inl, inr, arith, drop-set-lt, length-append, length-drop}
 use lib.Bits.{bit_or, bit_xor, or_lt, xor_lt}
+use lib.Count.{ones, ones_step}
+use Rattle.std.proofs.Math.Seq.{take-add, take-append_seam, drop-append_seam}
+use Rattle.std.proofs.lemmas.List.Sums.{sum_by-cons, sum_by-append}
+use Rattle.terms.proofs.Sizes.{ones_none}
 use Rattle.std.proofs.lemmas.Nat.{pow_pos, pow_below}
-use Rattle.std.proofs.lemmas.List.{get_or-set_same, get_or-set_other, length-set, length-replicate}
+use Rattle.std.proofs.lemmas.List.{get_or_past, get_or-set_same, get_or-set_other, get_or_append_left, get_or-replicate, get_or-take, length-take, length-set, length-replicate}
+use Rattle.std.proofs.lemmas.Slice.{drop-append-drop}
 use Rattle.std.proofs.lemmas.Bool.{cases_eq, cases_lt, cond-true, lt-ltb}
-use Rattle.terms.specs.Sets.{bit, In}
-use Rattle.terms.proofs.Bits.{bit_zero, bit_high, same_digits, with_new, with_other}
-use Rattle.register.specs.Pairs.{row, Has, with_pair, less_pair}
-use Rattle.register.specs.Model.{Sound, with_rows}
+use Rattle.terms.specs.Sets.{bit}
+use Rattle.terms.proofs.Bits.{bit_zero, bit_two, same_digits, with_new, with_other}
+use Rattle.register.specs.Pairs.{row, Has, pairs, having, members, with_pair, less_pair, emptied}
+use Rattle.register.proofs.Cases.{members_low, members_high}
+use Rattle.register.specs.Model.{users_of, with_rows}
 use Rattle.register.proofs.Tables.{each_row, same_rows, none_row, pairs_most}
 use Rattle.register.proofs.Tables as t
-use Rattle.flag_table.specs.Flags.{rows_from, users_in, rows_of, model_of, spare_of}
-use Rattle.flag_table.proofs.Words.{digit, length_from, from_wide, bit_flag}
-
--- ---- every table of flags is sound
-pub flags_sound : (fs : List Bool) (s : ℕ) → Sound (model_of fs s)
-flags_sound fs s =
-    let n = length_from (users_in fs) fs in
-    record { few = omega arith; wide = from_wide (users_in fs) fs; within = omega (arith, pairs_most (rows_of fs) (from_wide (users_in fs) fs)) }
+use Rattle.flag_table.specs.Flags.{word, rows_from, users_in, rows_of, model_of, spare_of, Inside, Outside}
+use Rattle.flag_table.specs.Sound.{digit, digit_two, length_from, from_wide}
+use Rattle.flag_table.proofs.Words.{bit_word, bit_flag}
 
 -- ---- as many flags, with other rows
 users_same : (fs gs : List Bool) → length gs ≡ length fs → users_in gs ≡ users_in fs
@@ -84,33 +85,150 @@ module _ (n : ℕ) (fs : List Bool) (u r : ℕ) (low : u < n) (small : r < 64) (
   pub flag_false : get_or fs (64 * u + r) false ≡ false → Has (rows_from n fs) u r → ⊥
   flag_false e h = omega (arith, flag_off e)
 
+-- ---- the same, of a table in use
+pub outside : (fs : List Bool) (s u r : ℕ) → Outside fs u r → (users_of (model_of fs s) ≤ u) ⊎ (64 ≤ r)
+outside fs s u r h = elim h [ inl l ↦ inl (omega (arith, length_from (users_in fs) fs)) | inr g ↦ inr g ]
+
+module _ (fs : List Bool) (s u r k : ℕ) (i : Inside fs u r k) where
+  room : 64 * users_in fs ≤ length fs
+  room = omega arith
+
+  pub in_table : k < length fs
+  in_table = omega (arith, i.low, i.small, i.same)
+
+  pub low : u < users_of (model_of fs s)
+  low = omega (arith, i.low, length_from (users_in fs) fs)
+
+  pub held : get_or fs k false ≡ true → Has (rows_of fs) u r
+  held e = flag_true (users_in fs) fs u r i.low i.small room (subst (λ j. get_or fs j false ≡ true) i.same e)
+
+  pub free : get_or fs k false ≡ false → Has (rows_of fs) u r → ⊥
+  free e = flag_false (users_in fs) fs u r i.low i.small room (subst (λ j. get_or fs j false ≡ false) i.same e)
+
+  pub model_marked : model_of (set fs k true) s ≡ with_rows (model_of fs s) (with_pair (rows_of fs) u r)
+  model_marked = model_with fs (set fs k true) s (with_pair (rows_of fs) u r) (length-set fs k true)
+      (ap (λ j. rows_from (users_in fs) (set fs j true)) i.same ∙ marked (users_in fs) fs u r i.low i.small room)
+
+  pub model_unmarked : get_or fs k false ≡ true → model_of (set fs k false) s ≡ with_rows (model_of fs s) (less_pair (rows_of fs) u r)
+  model_unmarked e = model_with fs (set fs k false) s (less_pair (rows_of fs) u r) (length-set fs k false)
+      (ap (λ j. rows_from (users_in fs) (set fs j false)) i.same ∙ unmarked (users_in fs) fs u r i.low i.small room (held e))
+
+  pub spare_kept : (b : Bool) → spare_of (set fs k b) ≡ spare_of fs
+  spare_kept b = spare_same fs (set fs k b) (length-set fs k b) (drop-set-lt (64 * users_in fs) fs k b (omega (arith, i.low, i.small, i.same)))
+
 -- ---- no flag is set
 pub unmarked_all : (n : ℕ) (fs : List Bool) → ((k : ℕ) → k < 64 * n → get_or fs k false ≡ false) → rows_from n fs ≡ replicate n 0
 unmarked_all n fs h =
     same_rows (rows_from n fs) (replicate n 0) (length_from n fs ∙ sym (length-replicate n 0)) (from_wide n fs) (λ u. rw (none_row n u) (pow_pos 64))
     (λ u k low l. let hu : u < n = omega (arith, length_from n fs) in bit_flag n fs u k hu l ∙ ap digit (h (64 * u + k) (omega arith)) ∙ sym (ap (λ w. bit w k) (none_row n u) ∙ bit_zero k))
 
--- ---- a row that is read flag after flag: right below role i, and empty from there on
-pub record Read (w row i : ℕ) : Type 0 where
-  pub done : (k : ℕ) → k < i → bit row k ≡ bit w k
+-- the flags in use are taken away
+module _ (fs : List Bool) (s : ℕ) where
+  front : length (replicate (64 * users_in fs) false) ≡ 64 * users_in fs
+  front = length-replicate (64 * users_in fs) false
+
+  long : length (replicate (64 * users_in fs) false ++ drop (64 * users_in fs) fs) ≡ length fs
+  long = omega (arith, front, length-append (replicate (64 * users_in fs) false) (drop (64 * users_in fs) fs), length-drop (64 * users_in fs) fs)
+
+  pub model_unset : model_of (replicate (64 * users_in fs) false ++ drop (64 * users_in fs) fs) s ≡ with_rows (model_of fs s) (emptied (rows_of fs))
+  model_unset = model_with fs _ s _ long (
+      unmarked_all (users_in fs) (replicate (64 * users_in fs) false ++ drop (64 * users_in fs) fs)
+      (λ k h. get_or_append_left (replicate (64 * users_in fs) false) (drop (64 * users_in fs) fs) false k (omega (arith, front)) ∙ get_or-replicate (64 * users_in fs) k false false h)
+      ∙ ap (λ k. replicate k 0) (sym (length_from (users_in fs) fs)))
+
+  pub spare_unset : spare_of (replicate (64 * users_in fs) false ++ drop (64 * users_in fs) fs) ≡ spare_of fs
+  spare_unset = spare_same fs _ long (drop-append-drop (64 * users_in fs) fs (replicate (64 * users_in fs) false) (64 * users_in fs) (omega arith) front)
+
+-- ---- a word that is read flag after flag: right below role i, and empty from there on
+pub record Read (bs : List Bool) (row i : ℕ) : Type 0 where
+  pub done : (k : ℕ) → k < i → bit row k ≡ digit (get_or bs k false)
   pub rest : (k : ℕ) → i ≤ k → bit row k ≡ 0
 
-pub read_set : (w row new i : ℕ) → i < 64 → new ≡ cond (ltb i 64) (bit_or row (2 ^ i)) row → In i w → Read w row i → Read w new (i + 1)
-read_set w row new i l e h o =
+pub read_set : (bs : List Bool) (row new i : ℕ) → i < 64 → new ≡ cond (ltb i 64) (bit_or row (2 ^ i)) row → get_or bs i false ≡ true → Read bs row i → Read bs new (i + 1)
+read_set bs row new i l e h o =
     let f : new ≡ bit_or row (2 ^ i) = e ∙ cond-true _ _ _ (lt-ltb i 64 l) in
-    subst (λ x. Read w x (i + 1)) (sym f) (record {
+    subst (λ x. Read bs x (i + 1)) (sym f) (record {
       done = λ k b. elim (cases_eq k i) [
-        | inl q ↦ subst (λ x. bit (bit_or row (2 ^ i)) x ≡ bit w x) (sym q) (with_new row i ∙ sym h)
+        | inl q ↦ subst (λ x. bit (bit_or row (2 ^ i)) x ≡ digit (get_or bs x false)) (sym q) (with_new row i ∙ sym (ap digit h))
         | inr ne ↦ with_other row i k ne ∙ o.done k (omega arith)
       ];
       rest = λ k b. with_other row i k (λ q. omega arith) ∙ o.rest k (omega arith);
     })
 
-pub read_off : (w row i : ℕ) → bit w i ≡ 0 → Read w row i → Read w row (i + 1)
-read_off w row i h o = record {
-  done = λ k b. elim (cases_eq k i) [ inl q ↦ subst (λ x. bit row x ≡ bit w x) (sym q) (o.rest i (omega arith) ∙ sym h) | inr ne ↦ o.done k (omega arith) ];
+pub read_off : (bs : List Bool) (row i : ℕ) → get_or bs i false ≡ false → Read bs row i → Read bs row (i + 1)
+read_off bs row i h o = record {
+  done = λ k b. elim (cases_eq k i) [ inl q ↦ subst (λ x. bit row x ≡ digit (get_or bs x false)) (sym q) (o.rest i (omega arith) ∙ sym (ap digit h)) | inr ne ↦ o.done k (omega arith) ];
   rest = λ k b. o.rest k (omega arith);
 }
 
-pub read_all : (w row : ℕ) → w < 2 ^ 64 → Read w row 64 → row ≡ w
-read_all w row wide o = same_digits row w (λ k. elim (cases_lt k 64) [ inl l ↦ o.done k l | inr g ↦ o.rest k g ∙ sym (bit_high w 64 k wide g) ])
+pub read_all : (bs : List Bool) (row : ℕ) → Read bs row (length bs) → row ≡ word bs
+read_all bs row o = same_digits row (word bs) (λ k. sym (bit_word bs k ∙ elim (cases_lt k (length bs)) [ inl l ↦ sym (o.done k l) | inr g ↦ ap digit (get_or_past bs k false g) ∙ sym (o.rest k g) ]))
+
+-- ---- counting the flags that are set
+word_ones : (bs : List Bool) → ones (word bs) ≡ count_by (λ b. b) bs
+unfolding word
+word_ones [] = ones_none
+word_ones (b ∷ bs) =
+    let w = word bs in
+    let low : (digit b + 2 * w) % 2 ≡ digit b = omega (arith, digit_two b) in
+    let half : (digit b + 2 * w) / 2 ≡ w = omega (arith, digit_two b) in
+    omega (arith, ones_step (digit b + 2 * w), low, ap ones half, word_ones bs, sum_by-cons digit b bs)
+
+pub flag_pairs : (n : ℕ) (fs : List Bool) → count_by (λ b. b) (take (64 * n) fs) ≡ pairs (rows_from n fs)
+unfolding rows_from
+flag_pairs zero fs = refl
+flag_pairs (suc n) fs =
+    let e : 64 * suc n ≡ 64 + 64 * n = omega arith in
+    ap (λ k. count_by (λ b. b) (take k fs)) e
+    ∙ ap (count_by (λ b. b)) (take-add 64 (64 * n) fs)
+    ∙ sum_by-append digit (take 64 fs) (take (64 * n) (drop 64 fs))
+    ∙ omega (arith, flag_pairs n (drop 64 fs), word_ones (take 64 fs), sum_by-cons ones (word (take 64 fs)) (rows_from n (drop 64 fs)))
+
+-- ---- one user more of a role's members
+pub user_members : (bs : List Bool) (t : List ℕ) (r : ℕ) → length bs ≡ 64 → members (word bs ∷ t) r ≡ digit (get_or bs r false) + members t r
+user_members bs t r long = elim (cases_lt r 64) [
+  | inl l ↦ omega (arith, members_low (word bs ∷ t) r l, members_low t r l, sum_by-cons (λ w. bit w r) (word bs) t, bit_word bs r)
+  | inr g ↦ omega (arith, members_high (word bs ∷ t) r g, members_high t r g, ap digit (get_or_past bs r false (omega arith)))
+]
+
+-- the members among the users whose flags are left
+abbrev pub left : List Bool → ℕ → ℕ
+left rest r = members (rows_from (length rest / 64) rest) r
+
+pub left_step : (all bs rest : List Bool) (r : ℕ) (b : Bool) → all ≡ bs ++ rest → length bs ≡ 64 → b ≡ get_or bs r false → left all r ≡ digit b + left rest r
+unfolding rows_from
+left_step all bs rest r b e long same =
+    let n : length all / 64 ≡ suc (length rest / 64) = omega (arith, ap (λ (x : List Bool). length x) e, length-append bs rest) in
+    let first : take 64 all ≡ bs = ap (take 64) e ∙ ap (λ k. take k (bs ++ rest)) (sym long) ∙ take-append_seam bs rest in
+    let others : drop 64 all ≡ rest = ap (drop 64) e ∙ ap (λ k. drop k (bs ++ rest)) (sym long) ∙ drop-append_seam bs rest in
+    ap (λ k. members (rows_from k all) r) n
+    ∙ ap (λ x. members (word x ∷ rows_from (length rest / 64) (drop 64 all)) r) first
+    ∙ ap (λ x. members (word bs ∷ rows_from (length rest / 64) x) r) others
+    ∙ user_members bs (rows_from (length rest / 64) rest) r long
+    ∙ ap (λ x. digit x + left rest r) (sym same)
+
+pub left_none : (all : List Bool) (r : ℕ) → length all < 64 → left all r ≡ 0
+unfolding rows_from
+left_none all r h =
+    let n : length all / 64 ≡ 0 = omega arith in
+    ap (λ k. members (rows_from k all) r) n ∙ elim (cases_lt r 64) [ inl l ↦ members_low [] r l | inr g ↦ members_high [] r g ]
+
+pub left_all : (fs : List Bool) (r : ℕ) → left (take (64 * users_in fs) fs) r ≡ members (rows_of fs) r
+left_all fs r =
+    let k = users_in fs in
+    let n : length (take (64 * k) fs) / 64 ≡ k = omega (arith, length-take (64 * k) fs) in
+    ap (λ j. members (rows_from j (take (64 * k) fs)) r) n
+    ∙ ap (λ t. members t r) (same_rows (rows_from k (take (64 * k) fs)) (rows_from k fs) (length_from k (take (64 * k) fs) ∙ sym (length_from k fs)) (from_wide k (take (64 * k) fs)) (from_wide k fs)
+    (λ u j low l.
+    let h : u < k = omega (arith, length_from k (take (64 * k) fs)) in
+    bit_flag k (take (64 * k) fs) u j h l ∙ ap digit (get_or-take (64 * k) fs (64 * u + j) false (omega arith)) ∙ sym (bit_flag k fs u j h l)))
+
+having_most : (t : List ℕ) (r : ℕ) → having r t ≤ length t
+having_most [] r = omega arith
+having_most (w ∷ t) r = omega (arith, sum_by-cons (λ x. bit x r) w t, bit_two w r, having_most t r)
+
+pub members_most : (fs : List Bool) (r : ℕ) → members (rows_of fs) r ≤ 4096
+members_most fs r = elim (cases_lt r 64) [
+  | inl l ↦ omega (arith, members_low (rows_of fs) r l, having_most (rows_of fs) r, length_from (users_in fs) fs)
+  | inr g ↦ omega (arith, members_high (rows_of fs) r g)
+]

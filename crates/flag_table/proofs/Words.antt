@@ -1,20 +1,12 @@
 -- Flags as a word, and as rows. Assumes nothing.
-use Rattle.std.proofs.Common.{◌≡◌, ℕ, zero, suc, ◌+◌, ◌*◌, ◌/◌, ◌^◌, ◌<◌, Bool, true, false, cond, List, [], ◌∷◌, length, get_or, take, drop, refl, ap, ◌∙◌, inl, inr, lt_of_lt_of_le, pow-suc, arith, pow_mono}
-use Rattle.std.proofs.lemmas.Nat.{pow_pos}
-use Rattle.std.proofs.lemmas.List.{get_or-drop, get_or-take, get_or_past, length-take, drop-drop}
-use Rattle.std.proofs.lemmas.Bool.{cases_lt}
+use Rattle.std.proofs.Common.{◌≡◌, ℕ, zero, suc, ◌+◌, ◌*◌, ◌/◌, ◌<◌, ◌≤◌, Bool, false, cond, List, [], ◌∷◌, length, get_or, take, drop, sym, ap, ◌∙◌, inl, inr, arith}
+use Rattle.std.proofs.lemmas.List.{get_or-drop, get_or-take, get_or_past, length-take}
+use Rattle.std.proofs.lemmas.Bool.{cases_lt, lt-ltb, le-ltb}
 use Rattle.terms.specs.Sets.{bit}
 use Rattle.terms.proofs.Bits.{bit_zero, bit_first, bit_next}
 use Rattle.register.specs.Pairs.{row}
-use Rattle.flag_table.specs.Flags.{word, rows_from}
-
--- a flag as a digit
-abbrev pub digit : Bool → ℕ
-digit b = cond b 1 0
-
-pub digit_two : (b : Bool) → digit b < 2
-digit_two true = omega arith
-digit_two false = omega arith
+use Rattle.flag_table.specs.Flags.{word, rows_from, users_in, flags_of, rows_of}
+use Rattle.flag_table.specs.Sound.{digit, digit_two, length_from, from_at}
 
 pub bit_word : (bs : List Bool) (k : ℕ) → bit (word bs) k ≡ digit (get_or bs k false)
 unfolding word
@@ -24,37 +16,23 @@ bit_word (b ∷ bs) (suc k) =
     let half : (digit b + 2 * word bs) / 2 ≡ word bs = omega (arith, digit_two b) in
     bit_next (digit b + 2 * word bs) k ∙ ap (λ w. bit w k) half ∙ bit_word bs k
 
-word_below : (bs : List Bool) → word bs < 2 ^ length bs
-unfolding word
-word_below [] = omega arith
-word_below (b ∷ bs) = omega (arith, digit_two b, word_below bs, pow-suc 2 (length bs))
-
-word_wide : (fs : List Bool) → word (take 64 fs) < 2 ^ 64
-word_wide fs = lt_of_lt_of_le (word_below (take 64 fs)) (pow_mono {j = 64} (omega (arith, length-take 64 fs)))
-
--- ---- the rows
-pub length_from : (n : ℕ) (fs : List Bool) → length (rows_from n fs) ≡ n
-unfolding rows_from
-length_from zero fs = refl
-length_from (suc n) fs = ap suc (length_from n (drop 64 fs))
-
-from_at : (n : ℕ) (fs : List Bool) (u : ℕ) → u < n → row (rows_from n fs) u ≡ word (take 64 (drop (64 * u) fs))
-unfolding rows_from
-from_at zero fs u h = absurd (omega arith)
-from_at (suc n) fs zero h = refl
-from_at (suc n) fs (suc u) h =
-    let e : 64 + 64 * u ≡ 64 * suc u = omega arith in
-    from_at n (drop 64 fs) u (omega arith) ∙ ap (λ xs. word (take 64 xs)) (drop-drop (64 * u) 64 fs ∙ ap (λ k. drop k fs) e)
-
-pub from_wide : (n : ℕ) (fs : List Bool) (u : ℕ) → row (rows_from n fs) u < 2 ^ 64
-from_wide n fs u = elim (cases_lt u n) [
-  | inl l ↦ rw (from_at n fs u l) (word_wide (drop (64 * u) fs))
-  | inr g ↦ rw (get_or_past (rows_from n fs) u 0 (rw (length_from n fs) g)) (pow_pos 64)
-]
-
 -- each bit is a flag
 pub bit_flag : (n : ℕ) (fs : List Bool) (u r : ℕ) → u < n → r < 64 → bit (row (rows_from n fs) u) r ≡ digit (get_or fs (64 * u + r) false)
 bit_flag n fs u r h l =
     ap (λ w. bit w r) (from_at n fs u h)
     ∙ bit_word (take 64 (drop (64 * u) fs)) r
     ∙ ap digit (get_or-take 64 (drop (64 * u) fs) r false l ∙ get_or-drop (64 * u) fs r false)
+
+-- ---- one user's flags
+pub few_flags : (fs : List Bool) (u : ℕ) → length (flags_of fs u) ≤ 64
+few_flags fs u = elim (cases_lt u (users_in fs)) [
+  | inl l ↦ omega (arith, length-take 64 (drop (64 * u) fs), ap (λ b. length (cond b (take 64 (drop (64 * u) fs)) [])) (lt-ltb u (users_in fs) l))
+  | inr g ↦ omega (arith, ap (λ b. length (cond b (take 64 (drop (64 * u) fs)) [])) (le-ltb u (users_in fs) g))
+]
+
+pub user_row : (fs : List Bool) (u : ℕ) → word (flags_of fs u) ≡ row (rows_of fs) u
+unfolding word
+user_row fs u = elim (cases_lt u (users_in fs)) [
+  | inl l ↦ ap (λ b. word (cond b (take 64 (drop (64 * u) fs)) [])) (lt-ltb u (users_in fs) l) ∙ sym (from_at (users_in fs) fs u l)
+  | inr g ↦ ap (λ b. word (cond b (take 64 (drop (64 * u) fs)) [])) (le-ltb u (users_in fs) g) ∙ sym (get_or_past (rows_of fs) u 0 (omega (arith, length_from (users_in fs) fs)))
+]

@@ -1,9 +1,10 @@
 // A register of an integrator's own: one lent flag for each user and role. It is made of the trait alone.
 #![tactic(auto)]
 
-ghost use Rattle.std.specs.Prelude.{◌≡◌, ℕ, ◌*◌, ◌^◌, ◌<◌, ◌≤◌, [], ◌∷◌, length};
-ghost use Rattle.register.specs.Pairs.{row as row_at, pairs as pair_count};
-ghost use Rattle.flag_table.specs.Flags.{rows_of, users_in, model_of, spare_of};
+ghost use Rattle.std.specs.Prelude.{◌≡◌, ◌≤◌, [], ◌∷◌, ◌++◌, false, MatchOption, length, drop, replicate};
+ghost use Rattle.register.specs.Pairs.{pairs, members};
+ghost use Rattle.flag_table.specs.Flags.{rows_of, users_in, in_use, flags_of, word, model_of, spare_of, Inside, Outside};
+ghost use Rattle.flag_table.specs.Sound.{flags_sound};
 
 use register::{Register, RegisterFault};
 use terms::sets::with_member;
@@ -13,9 +14,6 @@ use terms::sets::with_member;
 pub struct FlagTable<'a> {
     flags: &'a mut [bool],
     seats: u32,
-    ghost few: { length (rows_of flags.now) ≤ 4096 },
-    ghost wide: { (u : ℕ) → row_at (rows_of flags.now) u < 2 ^ 64 },
-    ghost within: { pair_count (rows_of flags.now) ≤ 64 * users_in flags.now },
 }
 
 impl<'a> FlagTable<'a> {
@@ -27,6 +25,62 @@ impl<'a> FlagTable<'a> {
     {
         FlagTable { flags, seats }
     }
+
+    // As many users as have all their flags.
+    fn user_count(&self) -> u32
+        ensures { result ≡ users_in self.now.flags.now }
+    {
+        (self.flags.len() / 64).min(4096) as u32
+    }
+
+    // The flags in use.
+    fn used(&self) -> &[bool]
+        ensures { result.now ≡ in_use self.now.flags.now }
+    {
+        &self.flags[..64 * self.user_count() as usize]
+    }
+
+    // The place of a pair's flag, where there may be a pair of the user and the role.
+    fn place(&self, user: u32, role: u32) -> Option<usize>
+        ensures { MatchOption result (Outside self.now.flags.now user role) (λ place. Inside self.now.flags.now user role place) }
+    {
+        if user < self.user_count() && role < 64 {
+            Some((64 * user + role) as usize)
+        } else {
+            None
+        }
+    }
+
+    // The user's flags; none where he is not below the number of users.
+    fn flags_of(&self, user: u32) -> &[bool]
+        ensures { result.now ≡ flags_of self.now.flags.now user }
+    {
+        if user >= self.user_count() {
+            return &[];
+        }
+        let start = 64 * user as usize;
+        &self.flags[start..start + 64]
+    }
+
+    // The number of flags that are set.
+    fn pair_count(&self) -> u32
+        ensures { result ≡ pairs (rows_of self.now.flags.now) }
+    {
+        self.used().iter().filter(|held| **held).count() as u32
+    }
+
+    // The number of users whose flag for the role is set; no flag is for a role above 63.
+    fn member_count(&self, role: u32) -> u32
+        ensures { result ≡ members (rows_of self.now.flags.now) role }
+    {
+        let mut members = 0;
+        for flags in self.used().chunks_exact(64) {
+            if flags.get(role as usize).copied().unwrap_or(false) {
+                members += 1;
+            }
+        }
+        members
+    }
 }
 
 impl<'a> Register for FlagTable<'a> {
@@ -34,14 +88,14 @@ impl<'a> Register for FlagTable<'a> {
 
     ghost kept = { λ s. record { spare = spare_of s.flags.now; lenders = s.flags.ghost_name ∷ [] } };
 
-    ghost sound = { λ s. record { few = s.few; wide = s.wide; within = s.within } };
+    ghost sound = { λ s. flags_sound s.flags.now s.seats };
 
     fn users(&self) -> u32 {
-        (self.flags.len() / 64).min(4096) as u32
+        self.user_count()
     }
 
     fn places(&self) -> u32 {
-        64 * <FlagTable<'_> as Register>::users(self)
+        64 * self.user_count()
     }
 
     fn seats(&self, role: u32) -> u32 {
@@ -49,51 +103,29 @@ impl<'a> Register for FlagTable<'a> {
     }
 
     fn pairs(&self) -> u32 {
-        let mut pairs = 0;
-        for user in 0..<FlagTable<'_> as Register>::users(self) {
-            pairs += <FlagTable<'_> as Register>::row(self, user).count_ones();
-        }
-        pairs
+        self.pair_count()
     }
 
     fn members(&self, role: u32) -> u32 {
-        if role > 63 {
-            return 0;
-        }
-        let mut members = 0;
-        for user in 0..<FlagTable<'_> as Register>::users(self) {
-            if self.flags[(64 * user + role) as usize] {
-                members += 1;
-            }
-        }
-        members
+        self.member_count(role)
     }
 
     fn row(&self, user: u32) -> u64 {
-        if user >= <FlagTable<'_> as Register>::users(self) {
-            return 0;
-        }
-        let mut row = 0;
-        for role in 0..64 {
-            if self.flags[(64 * user + role) as usize] {
-                row = with_member(row, role);
-            }
-        }
-        row
+        word_of(self.flags_of(user))
     }
 
+    // Each register tests for itself: an impl of `Register` that calls a function generic in it is a cycle to the check.
     fn add(&mut self, user: u32, role: u32) -> Result<(), RegisterFault> {
-        if user >= <FlagTable<'_> as Register>::users(self) || role > 63 {
+        let Some(flag) = self.place(user, role) else {
             return Err(RegisterFault::NoSuchPair);
-        }
-        let flag = (64 * user + role) as usize;
+        };
         if self.flags[flag] {
             return Ok(());
         }
-        if <FlagTable<'_> as Register>::members(self, role) >= self.seats {
+        if self.member_count(role) >= self.seats {
             return Err(RegisterFault::SeatsFull(role));
         }
-        if <FlagTable<'_> as Register>::pairs(self) >= <FlagTable<'_> as Register>::places(self) {
+        if self.pair_count() >= 64 * self.user_count() {
             return Err(RegisterFault::PlacesFull);
         }
         self.flags[flag] = true;
@@ -101,10 +133,9 @@ impl<'a> Register for FlagTable<'a> {
     }
 
     fn remove(&mut self, user: u32, role: u32) -> bool {
-        if user >= <FlagTable<'_> as Register>::users(self) || role > 63 {
+        let Some(flag) = self.place(user, role) else {
             return false;
-        }
-        let flag = (64 * user + role) as usize;
+        };
         if !self.flags[flag] {
             return false;
         }
@@ -113,8 +144,29 @@ impl<'a> Register for FlagTable<'a> {
     }
 
     fn clear(&mut self) {
-        for flag in 0..64 * <FlagTable<'_> as Register>::users(self) {
-            self.flags[flag as usize] = false;
+        let used = 64 * self.user_count() as usize;
+        unset(self.flags, used);
+    }
+}
+
+// The roles whose flags are set.
+fn word_of(flags: &[bool]) -> u64
+    requires { length flags.now ≤ 64 }
+    ensures { result ≡ word flags.now }
+{
+    let mut row = 0;
+    for (role, held) in flags.iter().enumerate() {
+        if *held {
+            row = with_member(row, role as u32);
         }
     }
+    row
+}
+
+// Takes the first so many flags away; the check follows a write to a part of a slice here, and loses it through a field.
+fn unset(flags: &mut [bool], count: usize)
+    requires { count ≤ length flags.old }
+    ensures { flags.new ≡ replicate count false ++ drop count flags.old }
+{
+    flags[..count].fill(false);
 }

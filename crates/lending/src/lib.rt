@@ -7,19 +7,20 @@ ghost use Rattle.std.specs.Result.{result_err};
 ghost use Rattle.bit_rows.specs.Table.{model_of};
 ghost use Rattle.register.specs.Changes.{shown, add_rows, added, cleared};
 ghost use Rattle.register.specs.Layer.{seated};
-ghost use Rattle.lending.specs.Whole.{whole};
+ghost use Rattle.lending.specs.Whole.{whole, twice_seated};
 
 use bit_rows::BitRows;
 use register::seats::SeatLayer;
 use register::{Register, RegisterFault};
+
+// Below, a user and a role are two arguments, as in the calls of `Register` that they are passed on to.
 
 // Adds a pair to the pairs that a table of words holds.
 pub fn add_to_table(table: &mut [u64], user: u32, role: u32) -> Result<(), RegisterFault>
     ensures answer { option_map shown (result_err result) ≡ add_rows (model_of table.old) user role }
     ensures table { table.new ≡ whole (added (model_of table.old) user role) table.old }
 {
-    let mut rows = BitRows::new(table);
-    rows.add(user, role)
+    BitRows::new(table).add(user, role)
 }
 
 // Empties a lent register, and adds a pair to it under a layer of seats.
@@ -33,10 +34,7 @@ pub fn start_seated<R: Register>(
     ensures rows { (R.Register.model register.new).rows ≡ (added (seated seats (cleared (R.Register.model register.old))) user role).rows }
     ensures kept { R.Register.kept register.new ≡ R.Register.kept register.old }
 {
-    let mut layer = SeatLayer::new(register, seats);
-    let answer = layer.add(user, role);
-    let _lent = layer.into_below();
-    answer
+    SeatLayer::new(register, seats).add(user, role)
 }
 
 // The same under two layers of seats.
@@ -47,14 +45,11 @@ pub fn start_twice_seated<R: Register>(
     user: u32,
     role: u32,
 ) -> Result<(), RegisterFault>
-    ensures answer { option_map shown (result_err result) ≡ add_rows (seated outer (seated inner (cleared (R.Register.model register.old)))) user role }
-    ensures rows { (R.Register.model register.new).rows ≡ (added (seated outer (seated inner (cleared (R.Register.model register.old)))) user role).rows }
+    ensures answer { option_map shown (result_err result) ≡ add_rows (twice_seated inner outer (R.Register.model register.old)) user role }
+    ensures rows { (R.Register.model register.new).rows ≡ (added (twice_seated inner outer (R.Register.model register.old)) user role).rows }
     ensures kept { R.Register.kept register.new ≡ R.Register.kept register.old }
 {
-    let mut layer = SeatLayer::new(register, inner);
-    let answer = start_seated(&mut layer, outer, user, role);
-    let _lent = layer.into_below();
-    answer
+    start_seated(&mut SeatLayer::new(register, inner), outer, user, role)
 }
 
 // Empties a table of words, and adds a pair to it under two layers of seats.
@@ -65,9 +60,8 @@ pub fn start_in_table(
     user: u32,
     role: u32,
 ) -> Result<(), RegisterFault>
-    ensures answer { option_map shown (result_err result) ≡ add_rows (seated outer (seated inner (cleared (model_of table.old)))) user role }
-    ensures table { table.new ≡ whole (added (seated outer (seated inner (cleared (model_of table.old)))) user role) table.old }
+    ensures answer { option_map shown (result_err result) ≡ add_rows (twice_seated inner outer (model_of table.old)) user role }
+    ensures table { table.new ≡ whole (added (twice_seated inner outer (model_of table.old)) user role) table.old }
 {
-    let mut rows = BitRows::new(table);
-    start_twice_seated(&mut rows, inner, outer, user, role)
+    start_twice_seated(&mut BitRows::new(table), inner, outer, user, role)
 }

@@ -8,7 +8,7 @@ use Rattle.lending.proofs.add_to_table.Goals as goal
 pub returns : goal.returns
 returns c =
     let e = c.add.ensures in
-    let same = c.new-rows.ensures.words in
+    let same = c.new.ensures.words in
     let name = ap (λ (k : Kept). k.lenders) e.kept in
     record {
       answer = e.answer ∙ ap (λ t. add_rows (model_of t) c.args.user c.args.role) same;

@@ -1,24 +1,15 @@
-use Rattle.std.proofs.Common.{◌+◌, ◌*◌, ◌<◌, ◌≤◌, true, ◌⊎◌, [], ◌∷◌, length, set, sym, refl, ap, ◌∙◌, inl, inr, ⊎_elim, arith, drop-set-lt}
-use Rattle.std.proofs.lemmas.List.{length-set}
-use Rattle.register.specs.Pairs.{Has, members}
-use Rattle.register.specs.Model.{users_of, seats_of}
+use Rattle.std.proofs.Common.{◌<◌, ◌≤◌, [], ◌∷◌, sym, refl, ap, ◌∙◌, arith}
+use Rattle.register.specs.Pairs.{members, pairs}
+use Rattle.register.specs.Model.{seats_of}
 use Rattle.register.proofs.Cases as cases
-use Rattle.flag_table.specs.Flags.{users_in, model_of}
-use Rattle.flag_table.proofs.Marks.{flags_sound, model_with, spare_same, marked, flag_true, flag_false}
-use Rattle.flag_table.proofs.Words.{length_from}
+use Rattle.flag_table.specs.Flags.{model_of}
+use Rattle.flag_table.proofs.Marks.{outside, held, free, low, model_marked, spare_kept}
 use Rattle.flag_table.proofs.FlagTableRegister.add.Goals as goal
 
-pub bounds-self-flag : goal.bounds-self-flag
-bounds-self-flag c = let fs = c.args.self.now.flags.now in omega (arith, length_from (users_in fs) fs)
-
-pub bounds-self-flag-2 : goal.bounds-self-flag-2
-bounds-self-flag-2 c = let fs = c.args.self.now.flags.now in omega (arith, length_from (users_in fs) fs)
-
-pub returns-then-user-users : goal.returns-then-user-users
-returns-then-user-users c =
-    let m = model_of c.args.self.now.flags.now c.args.self.now.seats in
-    let out : (users_of m ≤ c.args.user) ⊎ (64 ≤ c.args.role) = ⊎_elim (λ h. inl (omega (arith, c.users.ensures))) (λ h. inr (omega arith)) c.then-user-users.either in
-    let a = cases.add_outside m c.args.user c.args.role out in
+pub returns-in_default : goal.returns-in_default
+returns-in_default c =
+    let s = c.args.self.now in
+    let a = cases.add_outside (model_of s.flags.now s.seats) c.args.user c.args.role (outside s.flags.now s.seats c.args.user c.args.role c.in_default.ensures) in
     record { answer = sym a.answer; model = sym a.model; kept = refl }
 
 pub returns-then-self-flag : goal.returns-then-self-flag
@@ -28,49 +19,39 @@ returns-then-self-flag c =
     let m = model_of fs s.seats in
     let u = c.args.user in
     let r = c.args.role in
-    let len = length_from (users_in fs) fs in
-    let low : u < users_in fs = omega arith in
-    let small : r < 64 = omega arith in
-    let room : 64 * users_in fs ≤ length fs = omega arith in
-    let held : Has m.rows u r = flag_true (users_in fs) fs u r low small room c.if-self-flag.true in
-    let a = cases.add_held m u r (cases.held_true m u r (omega arith) small held) in
+    let k = c.in-Some.flag in
+    let i = c.in-Some.ensures in
+    let a = cases.add_held m u r (cases.held_true m u r (low fs s.seats u r k i) i.small (held fs s.seats u r k i c.if-self-flag.true)) in
     record { answer = sym a.answer; model = sym a.model; kept = refl }
 
-pub returns-then-members-self : goal.returns-then-members-self
-returns-then-members-self c =
+pub returns-then-member_count-self : goal.returns-then-member_count-self
+returns-then-member_count-self c =
     let s = c.args.self.now in
     let fs = s.flags.now in
     let m = model_of fs s.seats in
     let u = c.args.user in
     let r = c.args.role in
-    let len = length_from (users_in fs) fs in
-    let low : u < users_in fs = omega arith in
-    let small : r < 64 = omega arith in
-    let room : 64 * users_in fs ≤ length fs = omega arith in
-    let free : Has m.rows u r → ⊥ = flag_false (users_in fs) fs u r low small room c.if-self-flag.false in
-    let a = cases.add_no_seat m u r (omega arith) small free (omega (arith, cases.seats_low m r small, c.members.ensures)) in
+    let k = c.in-Some.flag in
+    let i = c.in-Some.ensures in
+    let none = free fs s.seats u r k i c.if-self-flag.false in
+    let full : seats_of m r ≤ members m.rows r = omega (arith, cases.seats_low m r i.small, c.member_count.ensures) in
+    let a = cases.add_no_seat m u r (low fs s.seats u r k i) i.small none full in
     record { answer = sym a.answer; model = sym a.model; kept = refl }
 
-pub returns-then-pairs-places : goal.returns-then-pairs-places
-returns-then-pairs-places c =
+pub returns-then-pair_count-user_count : goal.returns-then-pair_count-user_count
+returns-then-pair_count-user_count c =
     let s = c.args.self.now in
     let fs = s.flags.now in
     let m = model_of fs s.seats in
     let u = c.args.user in
     let r = c.args.role in
-    let len = length_from (users_in fs) fs in
-    let low : u < users_in fs = omega arith in
-    let small : r < 64 = omega arith in
-    let room : 64 * users_in fs ≤ length fs = omega arith in
-    let free : Has m.rows u r → ⊥ = flag_false (users_in fs) fs u r low small room c.if-self-flag.false in
-    let seat : members m.rows r < seats_of m r = omega (arith, cases.seats_low m r small, c.members.ensures) in
-    let a = cases.add_no_place m u r (omega arith) small free seat (omega (arith, c.pairs.ensures, c.places.ensures)) in
+    let k = c.in-Some.flag in
+    let i = c.in-Some.ensures in
+    let none = free fs s.seats u r k i c.if-self-flag.false in
+    let seat : members m.rows r < seats_of m r = omega (arith, cases.seats_low m r i.small, c.member_count.ensures) in
+    let full : m.places ≤ pairs m.rows = omega (arith, c.pair_count.ensures, c.user_count.ensures) in
+    let a = cases.add_no_place m u r (low fs s.seats u r k i) i.small none seat full in
     record { answer = sym a.answer; model = sym a.model; kept = refl }
-
-pub invariant_of-self : goal.invariant_of-self
-invariant_of-self c =
-    let s = c.args.self.now in
-    let k = flags_sound (set s.flags.now (64 * c.args.user + c.args.role) true) s.seats in record { few = k.few; wide = k.wide; within = k.within }
 
 pub returns : goal.returns
 returns c =
@@ -79,17 +60,14 @@ returns c =
     let m = model_of fs s.seats in
     let u = c.args.user in
     let r = c.args.role in
-    let len = length_from (users_in fs) fs in
-    let low : u < users_in fs = omega arith in
-    let small : r < 64 = omega arith in
-    let room : 64 * users_in fs ≤ length fs = omega arith in
-    let free : Has m.rows u r → ⊥ = flag_false (users_in fs) fs u r low small room c.if-self-flag.false in
-    let seat : members m.rows r < seats_of m r = omega (arith, cases.seats_low m r small, c.members.ensures) in
-    let a = cases.add_new m u r (omega arith) small free seat (omega (arith, c.pairs.ensures, c.places.ensures)) in
-    let gs = set fs (64 * u + r) true in
-    let long = length-set fs (64 * u + r) true in
+    let k = c.in-Some.flag in
+    let i = c.in-Some.ensures in
+    let none = free fs s.seats u r k i c.if-self-flag.false in
+    let seat : members m.rows r < seats_of m r = omega (arith, cases.seats_low m r i.small, c.member_count.ensures) in
+    let place : pairs m.rows < m.places = omega (arith, c.pair_count.ensures, c.user_count.ensures) in
+    let a = cases.add_new m u r (low fs s.seats u r k i) i.small none seat place in
     record {
       answer = sym a.answer;
-      model = model_with fs gs s.seats _ long (marked (users_in fs) fs u r low small room) ∙ sym a.model;
-      kept = ap (λ t. record { spare = t; lenders = s.flags.ghost_name ∷ [] }) (spare_same fs gs long (drop-set-lt (64 * users_in fs) fs (64 * u + r) true (omega arith)));
+      model = model_marked fs s.seats u r k i ∙ sym a.model;
+      kept = ap (λ t. record { spare = t; lenders = s.flags.ghost_name ∷ [] }) (spare_kept fs s.seats u r k i _);
     }
