@@ -1,6 +1,5 @@
 -- The laws of the first row that applies. Assumes nothing.
 use Rattle.std.proofs.Common.{◌≡◌, ℕ, zero, suc, ◌+◌, ◌<◌, Bool, true, false, ◌⊎◌, Some, None, Option, sym, refl, ap, ◌∙◌, subst, inl, inr, add-one, arith}
-use Rattle.std.specs.Option.{option_map}
 use Rattle.std.proofs.lemmas.Bool.{cases_eq}
 use Rattle.terms.specs.Refusals.{or_else, when}
 use Rattle.terms.specs.Firsts.{first_below}
@@ -8,7 +7,7 @@ use Rattle.terms.specs.Firsts.{first_below}
 -- ---- single rows
 
 pub some_none : {X : Type 0} {A : Type 0} (o : Option X) (x : X) → o ≡ Some x → o ≡ None → A
-some_none o x p q = absurd (let z : ◌≡◌ {A = ℕ} 0 1 = cc in omega arith)
+some_none o x p q = cc
 
 pub option_cases : {X : Type 0} (o : Option X) → (o ≡ None) ⊎ ((x : X) × (o ≡ Some x))
 option_cases None = inl refl
@@ -37,10 +36,6 @@ none_when b x e = ap (λ y. when y x) e
 pub some_when : {X : Type 0} (b : Bool) (x : X) → b ≡ true → when b x ≡ Some x
 some_when b x e = ap (λ y. when y x) e
 
-pub mapped_none : {X Y : Type 0} (f : X → Y) (o : Option X) → option_map f o ≡ None → o ≡ None
-mapped_none f (Some x) e = some_none (option_map f (Some x)) (f x) refl e
-mapped_none f None e = refl
-
 -- ---- numbered rows
 
 module _ {X : Type 0} (f : ℕ → Option X) where
@@ -54,9 +49,6 @@ module _ {X : Type 0} (f : ℕ → Option X) where
 
   pub first_more : (n : ℕ) → first_below f (n + 1) ≡ or_else (first_below f n) (f n)
   first_more n = ap (first_below f) (add-one n) ∙ first_suc n
-
-  pub first_on : (n : ℕ) → first_below f n ≡ None → f n ≡ None → first_below f (n + 1) ≡ None
-  first_on n p q = first_more n ∙ else_both (first_below f n) (f n) p q
 
   -- a row that applies after none before it is the first, however many follow
   pub first_here : (n m : ℕ) (x : X) → n < m → first_below f n ≡ None → f n ≡ Some x → first_below f m ≡ Some x

@@ -1,4 +1,4 @@
-use Rattle.std.proofs.Common.{◌≡◌, ◌⊎◌, refl, inl, inr, arith, rules}
+use Rattle.std.proofs.Common.{◌≡◌, ◌⊎◌, refl, inl, inr, arith}
 use Rattle.std.proofs.lemmas.Bool.{both_ways}
 use Rattle.plan.specs.Order.{Over}
 use Rattle.plan.proofs.Seniority.{keeps, gains, only, reflexive', transitive', antisymmetric'}
@@ -21,20 +21,15 @@ invariant_of-self-clause-antisymmetric c =
     ] in
     let m = c.raise.ensures in antisymmetric' _ _ _ _ m p.transitive p.antisymmetric free
 
-pub returns : goal.returns
-returns c =
-    let m = c.raise.ensures in
-    record {
-      answer = search rules;
-      refused = search rules;
-      added = λ _. record {
-        senior = omega arith;
-        junior = omega arith;
-        keeps = keeps _ _ _ _ m;
-        gains = gains _ _ _ _ m;
-        only = only _ _ _ _ m;
-        grants = refl;
-        policies = refl;
-        constraints = refl;
-      };
+pub returns-clause-added : goal.returns-clause-added
+returns-clause-added c =
+    let m = c.raise.ensures in λ _. record {
+      senior = omega arith;
+      junior = omega arith;
+      keeps = keeps _ _ _ _ m;
+      gains = gains _ _ _ _ m;
+      only = only _ _ _ _ m;
+      grants = refl;
+      policies = refl;
+      constraints = refl;
     }
