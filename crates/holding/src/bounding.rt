@@ -7,7 +7,7 @@ use super::{Named, Sought};
 use plan::{Constraint, Plan};
 use terms::sets::{PermissionSet, RoleSet, difference, with_member};
 
-// The most permissions of the set that are granted to one role.
+// The most permissions of the set that are granted to one role; roles are asked for by number.
 fn most(plan: &Plan, wanted: PermissionSet) -> u32
     ensures { (a : ℕ) → count_ones (bit_and (slice_index plan.now.grants a) wanted) ≤ result }
 {

@@ -8,6 +8,7 @@ use super::{Sought, Survey};
 use terms::sets::{PermissionSet, RoleSet, contains, difference, lowest};
 
 impl<'a> Sought<'a> {
+    // Who is authorised for what the roles `word` authorise for, and holds `wanted`.
     fn of(survey: &'a Survey<'a>, word: RoleSet, wanted: PermissionSet) -> Sought<'a>
         ensures asks { (w : ℕ) → Fits result w ↔ Holder survey.now.plan.now word wanted w }
         ensures wanted { result.wanted ≡ wanted }

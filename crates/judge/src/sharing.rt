@@ -10,7 +10,7 @@ use holding::Survey;
 use terms::sets::{Members, PermissionSet, contains, difference, lowest};
 
 // A search for users of one plan: what was surveyed of it, and what has been found out of it. The sets are looked up by
-// their members in `all`.
+// their members in `all`. Each call leaves the survey as it is (`same`), so what it learns of the plan stays true.
 #[derive(Drop)]
 pub struct Search<'a> {
     survey: &'a Survey<'a>,
@@ -27,6 +27,7 @@ fn slot(all: PermissionSet, held: PermissionSet) -> usize {
 }
 
 impl<'a> Search<'a> {
+    // A search that begins with what the memo knows.
     pub(crate) fn over(survey: &'a Survey<'a>, memo: Memo<'a>) -> Search<'a>
         requires { MemoRight survey.now.plan.now memo }
         ensures { result.survey.now ≡ survey.now }

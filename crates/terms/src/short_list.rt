@@ -18,6 +18,7 @@ pub struct ShortList<T: Copy, const N: usize> {
     ghost within: { count ≤ N },
 }
 
+// By hand: `Clone` is not derived of a generic struct that has a ghost field.
 impl<T: Copy, const N: usize> Clone for ShortList<T, N> {
     ghost is_clone = { λ l m. m ≡ l };
 
