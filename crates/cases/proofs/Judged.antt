@@ -2,7 +2,6 @@
 use Rattle.std.proofs.Common.{◌≡◌, ℕ, zero, suc, ◌^◌, ◌<◌, ◌≤◌, false, ◌||◌, ltb, leb, List, [], ◌∷◌, length, get_or, None, sym, refl, ap, ◌∙◌, subst, inl, inr, le_trans, arith, lit<}
 use lib.Bits.{bit_and, bit_or}
 use lib.Count.{ones}
-use Rattle.std.proofs.lemmas.List.{get_or-take}
 use Rattle.std.proofs.lemmas.Bool.{cases_lt, cases_eq, ne_eqb, lt-leb}
 use Rattle.terms.specs.Sets.{bit, In, Within}
 use Rattle.terms.proofs.Bits.{bit_high, none_in, in_and, in_both, in_or, in_or_l, in_or_r}
@@ -64,10 +63,10 @@ low_member w n k l h = elim (cases_lt k n) [ inl b ↦ b | inr g ↦ absurd (ome
 
 module _ (xs : List Addition) (p : Plan) (m : Means xs p) where
   policy_is : (i : ℕ) → i < length (policies xs) → policy_at p i ≡ get_or (policies xs) i (record { permissions = 0; least = 0 })
-  policy_is i l = sym (get_or-take (policy_count p) p.policies i (record { permissions = 0; least = 0 }) (omega (arith, policies_counted xs p m))) ∙ ap (λ ps. get_or ps i (record { permissions = 0; least = 0 })) m.policies
+  policy_is i l = ap (λ ps. get_or ps i (record { permissions = 0; least = 0 })) m.policies
 
   constraint_is : (i : ℕ) → i < length (constraints xs) → constraint_at p i ≡ get_or (constraints xs) i (record { roles = 0; limit = 0 })
-  constraint_is i l = sym (get_or-take (constraint_count p) p.constraints i (record { roles = 0; limit = 0 }) (omega (arith, constraints_counted xs p m))) ∙ ap (λ cs. get_or cs i (record { roles = 0; limit = 0 })) m.constraints
+  constraint_is i l = ap (λ cs. get_or cs i (record { roles = 0; limit = 0 })) m.constraints
 
 -- permission n is granted to role n alone
 abbrev Own : Plan → Type 0
@@ -320,12 +319,12 @@ module _ (p : Plan) where
 
   policy_taken : (xs : List Addition) → Means xs p → (u k n : ℕ) → ones u ≡ n → length (policies xs) < 32 → (ltb k 2 || ltb n k || ltb 8 k) ≡ false → ltb 16 n ≡ false → rows p (add.Policy u k) ≡ None
   policy_taken xs m u k n e few a b =
-      let c : leb 32 p.policy_count ≡ false = lt-leb 32 p.policy_count (omega (arith, policies_counted xs p m)) in
+      let c : leb 32 (policy_count p) ≡ false = lt-leb 32 (policy_count p) (omega (arith, policies_counted xs p m)) in
       rw (e, a, b, c) refl
 
   constraint_taken : (xs : List Addition) → Means xs p → (u k n : ℕ) → ones u ≡ n → length (constraints xs) < 64 → (ltb k 2 || ltb n k) ≡ false → rows p (add.Constraint u k) ≡ None
   constraint_taken xs m u k n e few a =
-      let c : leb 64 p.constraint_count ≡ false = lt-leb 64 p.constraint_count (omega (arith, constraints_counted xs p m)) in
+      let c : leb 64 (constraint_count p) ≡ false = lt-leb 64 (constraint_count p) (omega (arith, constraints_counted xs p m)) in
       rw (e, a, c) refl
 
 taken_with : (roles limit size : ℕ) → ones roles ≡ size → (ltb limit 2 || ltb size limit) ≡ false → Taken (constrained roles limit)

@@ -5,6 +5,7 @@ use commission::commission;
 use judge::{JudgedPlan, Witness};
 use plan::{Addition, Entry, Plan, PlanFault};
 use std::io;
+use terms::refusals::Fault;
 
 mod starred;
 

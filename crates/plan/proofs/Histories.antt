@@ -1,13 +1,15 @@
 -- One addition more to a plan. Assumes nothing.
-use Rattle.std.proofs.Common.{◌≡◌, ℕ, ◌+◌, ◌^◌, ◌<◌, ◌≤◌, true, false, not, ◌&&◌, ◌||◌, eqb, ltb, leb, ◌≢◌, ◌⊎◌, List, [], ◌∷◌, ◌++◌, length, get_or, take, set, is_ok, Ok, Err, Result, sym, refl, ap, ◌∙◌, subst, inl, inr, arith, length-take, below_more}
+use Rattle.std.proofs.Common.{◌≡◌, ℕ, ◌+◌, ◌^◌, ◌<◌, true, false, not, ◌&&◌, ◌||◌, eqb, ltb, leb, ◌≢◌, ◌⊎◌, List, [], ◌∷◌, ◌++◌, length, get_or, take, set, is_ok, Ok, Err, Result, sym, refl, ap, ◌∙◌, subst, inl, inr, arith, below_more}
 use lib.Bits.{bit_or}
 use lib.Count.{ones}
 use Rattle.std.specs.Result.{result_err}
 use Rattle.std.specs.Option.{option_map}
-use Rattle.std.proofs.lemmas.Bool.{cases_eq, cases_lt}
-use Rattle.std.proofs.lemmas.List.{append-nil, append_assoc, get_or-set_same, get_or-set_other, take-set-le, take_more_set, map-set, get_or-map, set-get_or, get_or_past}
-use Rattle.terms.specs.Sets.{bit, In}
+use Rattle.std.proofs.lemmas.Bool.{cases_eq}
+use Rattle.std.proofs.lemmas.List.{append-nil, append_assoc, get_or-set_same, get_or-set_other, take-set-le, take_more_set, map-set, get_or-map, set-get_or}
+use Rattle.terms.specs.Sets.{In}
+use Rattle.terms.specs.Lists.{listed}
 use Rattle.plan.specs.Order.{Over, Reflexive, Transitive}
+use Rattle.plan.specs.Authority.{policies_of, constraints_of, policy_count, constraint_count}
 use Rattle.plan.specs.Refusing.{shown}
 use Rattle.terms.specs.Refusals.{when, first_of, refusal}
 use Rattle.plan.specs.Adding.{SeniorAdded}
@@ -17,7 +19,7 @@ use Rattle.plan.specs.declared.PlanFault.{PlanFault}
 use Rattle.plan.specs.declared.Addition.{Addition}
 use Rattle.plan.specs.declared.Addition.TheVariants as add
 use Rattle.plan.specs.declared.Entry.{Entry}
-use Rattle.terms.proofs.Bits.{in_or_l, in_or_r, in_or, in_one, in_one_only, bit_zero, bit_two}
+use Rattle.terms.proofs.Bits.{in_or_l, in_or_r, in_or, in_one, in_one_only, bit_zero, same_bit}
 
 -- lists joined
 seniors_join : (xs ys : List Addition) → seniors (xs ++ ys) ≡ seniors xs ++ seniors ys
@@ -147,11 +149,11 @@ module _ (xs : List Addition) (p q : Plan) (m : Means xs p) where
   grants_stay x n e = subst (λ ps. GrantsAre ps q.grants) (sym (grants_join xs (x ∷ []) ∙ ap (λ l. grants xs ++ l) n ∙ append-nil (grants xs)))
       (subst (GrantsAre (grants xs)) (sym e) (m.grant_only, m.grant_all))
 
-  policies_stay : (x : Addition) → policies (x ∷ []) ≡ [] → q.policies ≡ p.policies → q.policy_count ≡ p.policy_count → take q.policy_count q.policies ≡ policies (xs ++ (x ∷ []))
-  policies_stay x n e f = ap (λ k. take k q.policies) f ∙ ap (take p.policy_count) e ∙ m.policies ∙ sym (policies_join xs (x ∷ []) ∙ ap (λ l. policies xs ++ l) n ∙ append-nil (policies xs))
+  policies_stay : (x : Addition) → policies (x ∷ []) ≡ [] → q.policies ≡ p.policies → policies_of q ≡ policies (xs ++ (x ∷ []))
+  policies_stay x n e = ap listed e ∙ m.policies ∙ sym (policies_join xs (x ∷ []) ∙ ap (λ l. policies xs ++ l) n ∙ append-nil (policies xs))
 
-  constraints_stay : (x : Addition) → constraints (x ∷ []) ≡ [] → q.constraints ≡ p.constraints → q.constraint_count ≡ p.constraint_count → take q.constraint_count q.constraints ≡ constraints (xs ++ (x ∷ []))
-  constraints_stay x n e f = ap (λ k. take k q.constraints) f ∙ ap (take p.constraint_count) e ∙ m.constraints ∙ sym (constraints_join xs (x ∷ []) ∙ ap (λ l. constraints xs ++ l) n ∙ append-nil (constraints xs))
+  constraints_stay : (x : Addition) → constraints (x ∷ []) ≡ [] → q.constraints ≡ p.constraints → constraints_of q ≡ constraints (xs ++ (x ∷ []))
+  constraints_stay x n e = ap listed e ∙ m.constraints ∙ sym (constraints_join xs (x ∷ []) ∙ ap (λ l. constraints xs ++ l) n ∙ append-nil (constraints xs))
 
   pub means_more : (x : Addition) → Added p x q → Means (xs ++ (x ∷ [])) q
   means_more (add.Senior s j) h =
@@ -162,8 +164,8 @@ module _ (xs : List Addition) (p q : Plan) (m : Means xs p) where
         senior_all = are.1;
         grant_only = gr.0;
         grant_all = gr.1;
-        policies = policies_stay (add.Senior s j) refl h.policies h.policy_count;
-        constraints = constraints_stay (add.Senior s j) refl h.constraints h.constraint_count;
+        policies = policies_stay (add.Senior s j) refl h.policies;
+        constraints = constraints_stay (add.Senior s j) refl h.constraints;
       }
   means_more (add.Grant r k) h =
       let are = seniors_stay (add.Grant r k) refl h.juniors in
@@ -174,8 +176,8 @@ module _ (xs : List Addition) (p q : Plan) (m : Means xs p) where
         senior_all = are.1;
         grant_only = gr.0;
         grant_all = gr.1;
-        policies = policies_stay (add.Grant r k) refl h.policies h.policy_count;
-        constraints = constraints_stay (add.Grant r k) refl h.constraints h.constraint_count;
+        policies = policies_stay (add.Grant r k) refl h.policies;
+        constraints = constraints_stay (add.Grant r k) refl h.constraints;
       }
   means_more (add.Policy w k) h =
       let are = seniors_stay (add.Policy w k) refl h.juniors in
@@ -186,7 +188,7 @@ module _ (xs : List Addition) (p q : Plan) (m : Means xs p) where
         grant_only = gr.0;
         grant_all = gr.1;
         policies = h.policies ∙ ap (λ l. l ++ (record { permissions = w; least = k } ∷ [])) m.policies ∙ sym (policies_join xs (add.Policy w k ∷ []));
-        constraints = constraints_stay (add.Policy w k) refl h.constraints h.constraint_count;
+        constraints = constraints_stay (add.Policy w k) refl h.constraints;
       }
   means_more (add.Constraint w t) h =
       let are = seniors_stay (add.Constraint w t) refl h.juniors in
@@ -196,7 +198,7 @@ module _ (xs : List Addition) (p q : Plan) (m : Means xs p) where
         senior_all = are.1;
         grant_only = gr.0;
         grant_all = gr.1;
-        policies = policies_stay (add.Constraint w t) refl h.policies h.policy_count;
+        policies = policies_stay (add.Constraint w t) refl h.policies;
         constraints = h.constraints ∙ ap (λ l. l ++ (record { roles = w; limit = t } ∷ [])) m.constraints ∙ sym (constraints_join xs (add.Constraint w t ∷ []));
       }
 
@@ -205,41 +207,23 @@ module _ (xs : List Addition) (p q : Plan) (m : Means xs p) where
   means_made x (Err f) left new = subst (λ l. Means l q) (sym (append-nil xs)) (subst (Means xs) (sym (left refl)) m)
 
 -- the empty plan
-pub means_none : (p : Plan) → ((a b : ℕ) → Over p.juniors a b → (a ≡ b) × (a < 64)) → ((a : ℕ) → get_or p.grants a 0 ≡ 0) → p.policy_count ≡ 0 → p.constraint_count ≡ 0 → Means [] p
+pub means_none : (p : Plan) → ((a b : ℕ) → Over p.juniors a b → (a ≡ b) × (a < 64)) → ((a : ℕ) → get_or p.grants a 0 ≡ 0) → policies_of p ≡ [] → constraints_of p ≡ [] → Means [] p
 means_none p alone granted asked bound = record {
   senior_only = λ a b o. let h = alone a b o in subst (λ x. Reaches [] a x) h.0 (itself h.1);
   senior_all = λ a b r. closed p.juniors p.reflexive p.transitive (λ x y lx ly l. absurd l) r;
   grant_only = λ r m h. let z = subst (In m) (granted r) h in absurd (omega (arith, bit_zero m));
   grant_all = λ r m l. absurd l;
-  policies = ap (λ n. take n p.policies) asked;
-  constraints = ap (λ n. take n p.constraints) bound;
+  policies = asked;
+  constraints = bound;
 }
 
+pub policies_counted : (xs : List Addition) (p : Plan) → Means xs p → policy_count p ≡ length (policies xs)
+policies_counted xs p m = ap length m.policies
+
+pub constraints_counted : (xs : List Addition) (p : Plan) → Means xs p → constraint_count p ≡ length (constraints xs)
+constraints_counted xs p m = ap length m.constraints
+
 -- two plans that mean the same give the same answers
-same_bit : (w v s : ℕ) → (In s w → In s v) → (In s v → In s w) → bit w s ≡ bit v s
-same_bit w v s f g = elim (cases_eq (bit w s) 1) [
-  | inl e ↦ e ∙ sym (f e)
-  | inr n ↦ elim (cases_eq (bit v s) 1) [ inl e ↦ absurd (n (g e)) | inr k ↦ omega (arith, bit_two w s, bit_two v s) ]
-]
-
-policies_fit : (p : Plan) → p.policy_count ≤ length p.policies
-policies_fit p = elim (cases_lt (length p.policies) p.policy_count) [
-  | inl l ↦ absurd (let z = get_or_past p.policies (length p.policies) (record { permissions = 0; least = 0 }) (omega arith) in omega (arith, p.several (length p.policies) l, ap (λ c. c.least) z))
-  | inr g ↦ g
-]
-
-constraints_fit : (p : Plan) → p.constraint_count ≤ length p.constraints
-constraints_fit p = elim (cases_lt (length p.constraints) p.constraint_count) [
-  | inl l ↦ absurd (let z = get_or_past p.constraints (length p.constraints) (record { roles = 0; limit = 0 }) (omega arith) in omega (arith, p.limited (length p.constraints) l, ap (λ c. c.limit) z))
-  | inr g ↦ g
-]
-
-pub policies_counted : (xs : List Addition) (p : Plan) → Means xs p → p.policy_count ≡ length (policies xs)
-policies_counted xs p m = omega (arith, length-take p.policy_count p.policies, policies_fit p, ap length m.policies)
-
-pub constraints_counted : (xs : List Addition) (p : Plan) → Means xs p → p.constraint_count ≡ length (constraints xs)
-constraints_counted xs p m = omega (arith, length-take p.constraint_count p.constraints, constraints_fit p, ap length m.constraints)
-
 pub rows_same : (xs : List Addition) (p q : Plan) → Means xs p → Means xs q → (x : Addition) → rows p x ≡ rows q x
 rows_same xs p q m n (add.Senior s j) = ap (λ b. first_of (when (ltb 63 s || ltb 63 j) (refusal 1 []) ∷ when (not (eqb s j) && eqb b 1) (refusal 3 []) ∷ []))
     (same_bit (get_or p.juniors j 0) (get_or q.juniors j 0) s (λ h. n.senior_all j s (m.senior_only j s h)) (λ h. m.senior_all j s (n.senior_only j s h)))

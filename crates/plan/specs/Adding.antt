@@ -1,6 +1,6 @@
 -- What an accepted addition makes of a plan p: the plan q has it, and all else of p as it was.
-use Rattle.std.specs.Prelude.{◌≡◌, ℕ, ◌^◌, ◌<◌, ◌⊎◌, [], ◌∷◌, ◌++◌, length, take, bit_or, slice_index, slice_set}
-use Rattle.plan.specs.Authority.{Senior}
+use Rattle.std.specs.Prelude.{◌≡◌, ℕ, ◌^◌, ◌<◌, ◌⊎◌, [], ◌∷◌, ◌++◌, length, bit_or, slice_index, slice_set}
+use Rattle.plan.specs.Authority.{Senior, policies_of, constraints_of}
 use Rattle.plan.specs.declared.Plan.{Plan}
 
 -- s is senior to j, with what follows from it, and nothing more
@@ -12,9 +12,7 @@ pub record SeniorAdded (p : Plan) (s j : ℕ) (q : Plan) : Type 0 where
   pub only : (a b : ℕ) → Senior q a b → Senior p a b ⊎ (Senior p a s × Senior p j b)
   pub grants : q.grants ≡ p.grants
   pub policies : q.policies ≡ p.policies
-  pub policy_count : q.policy_count ≡ p.policy_count
   pub constraints : q.constraints ≡ p.constraints
-  pub constraint_count : q.constraint_count ≡ p.constraint_count
 
 -- role r is granted m
 pub record GrantAdded (p : Plan) (r m : ℕ) (q : Plan) : Type 0 where
@@ -23,22 +21,18 @@ pub record GrantAdded (p : Plan) (r m : ℕ) (q : Plan) : Type 0 where
   pub grants : q.grants ≡ slice_set p.grants r (bit_or (slice_index p.grants r) (2 ^ m))
   pub juniors : q.juniors ≡ p.juniors
   pub policies : q.policies ≡ p.policies
-  pub policy_count : q.policy_count ≡ p.policy_count
   pub constraints : q.constraints ≡ p.constraints
-  pub constraint_count : q.constraint_count ≡ p.constraint_count
 
 -- the policy ⟨w, k⟩ comes after the others
 pub record PolicyAdded (p : Plan) (w k : ℕ) (q : Plan) : Type 0 where
-  pub policies : take q.policy_count q.policies ≡ take p.policy_count p.policies ++ (record { permissions = w; least = k } ∷ [])
+  pub policies : policies_of q ≡ policies_of p ++ (record { permissions = w; least = k } ∷ [])
   pub grants : q.grants ≡ p.grants
   pub juniors : q.juniors ≡ p.juniors
   pub constraints : q.constraints ≡ p.constraints
-  pub constraint_count : q.constraint_count ≡ p.constraint_count
 
 -- the constraint ⟨w, t⟩ comes after the others
 pub record ConstraintAdded (p : Plan) (w t : ℕ) (q : Plan) : Type 0 where
-  pub constraints : take q.constraint_count q.constraints ≡ take p.constraint_count p.constraints ++ (record { roles = w; limit = t } ∷ [])
+  pub constraints : constraints_of q ≡ constraints_of p ++ (record { roles = w; limit = t } ∷ [])
   pub grants : q.grants ≡ p.grants
   pub juniors : q.juniors ≡ p.juniors
   pub policies : q.policies ≡ p.policies
-  pub policy_count : q.policy_count ≡ p.policy_count

@@ -1,7 +1,8 @@
 -- What a plan means for a user, who is given by the set of his assigned roles: the roles that he is authorised for,
 -- the permissions that he holds, and whether he satisfies the constraints.
-use Rattle.std.specs.Prelude.{ℕ, ◌<◌, ◌≤◌, List, [], ◌∷◌, bit_and, take, bit_or, count_ones, slice_index}
+use Rattle.std.specs.Prelude.{ℕ, ◌<◌, ◌≤◌, List, [], ◌∷◌, length, bit_and, bit_or, count_ones, slice_index}
 use Rattle.terms.specs.Sets.{In, union}
+use Rattle.terms.specs.Lists.{listed}
 use Rattle.plan.specs.Order.{Over}
 use Rattle.plan.specs.Limits.{policy_in, constraint_in}
 use Rattle.plan.specs.declared.Plan.{Plan}
@@ -34,24 +35,24 @@ held p w = union p.grants (authorised p w)
 
 -- a plan's policies and its constraints, in order
 abbrev pub policies_of : Plan → List Policy
-policies_of p = take p.policy_count p.policies
+policies_of p = listed p.policies
 
 abbrev pub constraints_of : Plan → List Constraint
-constraints_of p = take p.constraint_count p.constraints
+constraints_of p = listed p.constraints
 
 -- the number of a plan's policies, and the policy of a number
 abbrev pub policy_count : Plan → ℕ
-policy_count p = p.policy_count
+policy_count p = length (policies_of p)
 
 abbrev pub policy_at : Plan → ℕ → Policy
-policy_at p i = policy_in p.policies i
+policy_at p i = policy_in (policies_of p) i
 
 -- the number of its constraints, and the constraint of a number
 abbrev pub constraint_count : Plan → ℕ
-constraint_count p = p.constraint_count
+constraint_count p = length (constraints_of p)
 
 abbrev pub constraint_at : Plan → ℕ → Constraint
-constraint_at p i = constraint_in p.constraints i
+constraint_at p i = constraint_in (constraints_of p) i
 
 -- a user with the assigned roles w satisfies every constraint: he is authorised for fewer of its roles than its limit
 abbrev pub Satisfies : Plan → ℕ → Type 0

@@ -3,7 +3,7 @@ use Rattle.std.specs.Prelude.{◌≡◌, ℕ, ◌<◌, ◌⊎◌, List, [], ◌�
 use Rattle.std.specs.Result.{result_err}
 use Rattle.std.specs.Option.{option_map}
 use Rattle.terms.specs.Refusals.{Refusal}
-use Rattle.plan.specs.Authority.{Senior, Granted}
+use Rattle.plan.specs.Authority.{Senior, Granted, policies_of, constraints_of}
 use Rattle.plan.specs.Refusing.{shown, senior_rows, grant_rows, policy_rows, constraint_rows}
 use Rattle.plan.specs.Adding.{SeniorAdded, GrantAdded, PolicyAdded, ConstraintAdded}
 use Rattle.plan.specs.declared.Plan.{Plan}
@@ -88,8 +88,8 @@ pub record Means (xs : List Addition) (p : Plan) : Type 0 where
   pub senior_all : (a b : ℕ) → Reaches (seniors xs) a b → Senior p a b
   pub grant_only : (r m : ℕ) → Granted p r m → Listed r m (grants xs)
   pub grant_all : (r m : ℕ) → Listed r m (grants xs) → Granted p r m
-  pub policies : take p.policy_count p.policies ≡ policies xs
-  pub constraints : take p.constraint_count p.constraints ≡ constraints xs
+  pub policies : policies_of p ≡ policies xs
+  pub constraints : constraints_of p ≡ constraints xs
 
 abbrev pub entry : List Entry → ℕ → Entry
 entry log n = slice_index_or log n (record { addition = add.Senior 0 0; answer = Ok tt })

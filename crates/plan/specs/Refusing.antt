@@ -2,6 +2,7 @@
 use Rattle.std.specs.Prelude.{ℕ, not, ◌&&◌, ◌||◌, [], ◌∷◌, Option, ◌==◌, count_ones, nat_le, nat_lt, slice_index}
 use Rattle.terms.specs.Sets.{bit}
 use Rattle.terms.specs.Refusals.{Refusal, refusal, when, first_of}
+use Rattle.plan.specs.Authority.{policy_count, constraint_count}
 use Rattle.plan.specs.declared.Plan.{Plan}
 use Rattle.plan.specs.declared.PlanFault.{PlanFault}
 use Rattle.plan.specs.declared.PlanFault.TheVariants.{NoRole, NoPermission, Cycle, Limit, Wide, Full}
@@ -34,12 +35,12 @@ abbrev pub policy_rows : Plan → ℕ → ℕ → Option Refusal
 policy_rows p w k = first_of (
     when (nat_lt k 2 || nat_lt (count_ones w) k || nat_lt 8 k) (refusal 4 [])
     ∷ when (nat_lt 16 (count_ones w)) (refusal 5 [])
-    ∷ when (nat_le 32 p.policy_count) (refusal 6 [])
+    ∷ when (nat_le 32 (policy_count p)) (refusal 6 [])
     ∷ [])
 
 -- constraint ⟨w, t⟩: t below 2 or above the set's size; already 64 constraints
 abbrev pub constraint_rows : Plan → ℕ → ℕ → Option Refusal
 constraint_rows p w t = first_of (
     when (nat_lt t 2 || nat_lt (count_ones w) t) (refusal 4 [])
-    ∷ when (nat_le 64 p.constraint_count) (refusal 6 [])
+    ∷ when (nat_le 64 (constraint_count p)) (refusal 6 [])
     ∷ [])

@@ -14,7 +14,7 @@ fn raise(rows: &mut [RoleSet; 64], senior: u32, gained: RoleSet)
 {
     for row in rows.iter_mut() {
         if contains(*row, senior) {
-            *row = *row | gained;
+            *row |= gained;
         }
     }
 }
@@ -50,7 +50,7 @@ impl Plan {
             return Err(PlanFault::NoPermission);
         }
         let at = role as usize;
-        self.grants[at] = self.grants[at] | (1u64 << permission);
+        self.grants[at] |= 1 << permission;
         Ok(())
     }
 
@@ -67,11 +67,7 @@ impl Plan {
         if size > 16 {
             return Err(PlanFault::Wide);
         }
-        if self.policy_count >= 32 {
-            return Err(PlanFault::Full);
-        }
-        self.policies[self.policy_count] = Policy { permissions, least };
-        self.policy_count += 1;
+        self.policies.push(Policy { permissions, least })?;
         Ok(())
     }
 
@@ -84,11 +80,7 @@ impl Plan {
         if limit < 2 || limit > roles.count_ones() {
             return Err(PlanFault::Limit);
         }
-        if self.constraint_count >= 64 {
-            return Err(PlanFault::Full);
-        }
-        self.constraints[self.constraint_count] = Constraint { roles, limit };
-        self.constraint_count += 1;
+        self.constraints.push(Constraint { roles, limit })?;
         Ok(())
     }
 }

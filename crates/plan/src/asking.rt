@@ -3,17 +3,15 @@ ghost use Rattle.terms.specs.Sets.{In, union};
 ghost use Rattle.plan.specs.Authority.{Senior, Granted, AuthorisedFor, Holds, authorised, held, policies_of, constraints_of, policy_count, policy_at, constraint_count, constraint_at, Satisfies, LowestBroken};
 
 use super::{Constraint, Plan, Policy};
-use terms::sets::{PermissionSet, RoleSet, contains};
+use terms::sets::{Members, PermissionSet, RoleSet};
 
 // The union of the rows whose numbers are in `chosen`.
 fn union_of(rows: &[u64; 64], chosen: u64) -> u64
     ensures { result ≡ union rows.now chosen }
 {
-    let mut all: u64 = 0;
-    for i in 0u32..64 {
-        if contains(chosen, i) {
-            all = all | rows[i as usize];
-        }
+    let mut all = 0;
+    for number in Members::of(chosen) {
+        all |= rows[number as usize];
     }
     all
 }
@@ -40,8 +38,7 @@ impl Plan {
         ensures { MatchOption result (Satisfies self.now assigned) (λ i. LowestBroken self.now assigned i) }
     {
         let all = self.authorised(assigned);
-        for i in 0..self.constraint_count {
-            let c = self.constraints[i];
+        for (i, c) in self.constraints().iter().enumerate() {
             if (all & c.roles).count_ones() >= c.limit {
                 return Some(i);
             }
@@ -61,10 +58,7 @@ impl Plan {
         ensures value { result ≡ slice_index self.now.juniors role }
         ensures exactly { (b : ℕ) → In b result ↔ Senior self.now role b }
     {
-        if role > 63 {
-            return 0;
-        }
-        self.juniors[role as usize]
+        self.juniors.get(role as usize).copied().unwrap_or(0)
     }
 
     // The permissions granted to a role directly; none for a role above 63.
@@ -72,57 +66,48 @@ impl Plan {
         ensures value { result ≡ slice_index self.now.grants role }
         ensures exactly { (m : ℕ) → In m result ↔ Granted self.now role m }
     {
-        if role > 63 {
-            return 0;
-        }
-        self.grants[role as usize]
+        self.grants.get(role as usize).copied().unwrap_or(0)
     }
 
     // The policies, in order.
     pub fn policies(&self) -> &[Policy]
         ensures { result.now ≡ policies_of self.now }
     {
-        &self.policies[..self.policy_count]
+        self.policies.as_slice()
     }
 
     // The constraints, in order.
     pub fn constraints(&self) -> &[Constraint]
         ensures { result.now ≡ constraints_of self.now }
     {
-        &self.constraints[..self.constraint_count]
+        self.constraints.as_slice()
     }
 
     // How many policies there are; they are numbered from 0.
     pub fn policy_count(&self) -> usize
         ensures { result ≡ policy_count self.now }
     {
-        self.policy_count
+        self.policies.len()
     }
 
     // The policy of a number.
     pub fn policy_at(&self, number: usize) -> Option<Policy>
         ensures { result ≡ (if nat_lt number (policy_count self.now) then Some (policy_at self.now number) else None) }
     {
-        if number >= self.policy_count {
-            return None;
-        }
-        Some(self.policies[number])
+        self.policies().get(number).copied()
     }
 
     // How many constraints there are; they are numbered from 0.
     pub fn constraint_count(&self) -> usize
         ensures { result ≡ constraint_count self.now }
     {
-        self.constraint_count
+        self.constraints.len()
     }
 
     // The constraint of a number.
     pub fn constraint_at(&self, number: usize) -> Option<Constraint>
         ensures { result ≡ (if nat_lt number (constraint_count self.now) then Some (constraint_at self.now number) else None) }
     {
-        if number >= self.constraint_count {
-            return None;
-        }
-        Some(self.constraints[number])
+        self.constraints().get(number).copied()
     }
 }

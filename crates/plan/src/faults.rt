@@ -1,7 +1,9 @@
+ghost use Rattle.std.specs.Prelude.{◌≡◌};
 ghost use Rattle.plan.specs.Refusing.{shown};
 
 use super::PlanFault;
 use terms::refusals::Fault;
+use terms::short_list::NoRoom;
 
 impl Fault for PlanFault {
     ghost shown = { shown };
@@ -15,5 +17,16 @@ impl Fault for PlanFault {
             PlanFault::Wide => 5,
             PlanFault::Full => 6,
         }
+    }
+}
+
+// A list that has no room for one more policy, or constraint, is full.
+impl From<NoRoom> for PlanFault {
+    ghost use Rattle.plan.specs.declared.PlanFault.TheVariants.{Full};
+
+    ghost from_gives = { λ _ f. f ≡ Full };
+
+    fn from(_: NoRoom) -> Self {
+        Self::Full
     }
 }

@@ -1,12 +1,14 @@
 // The plan of a store: which role is senior to which, which permissions each role is granted, which
 // policies say how many people a set of permissions takes, and which constraints exclude roles from each other.
-#![tactic(auto)]
+#![tactic(auto, using(terms::proofs::Lists::listed_within))]
 
 ghost use Rattle.std.specs.Prelude.{◌≡◌, ℕ, ◌<◌, ◌≤◌, length};
+ghost use Rattle.terms.specs.Lists.{listed};
 ghost use Rattle.plan.specs.Limits.{AtLeastTwo, AtMostEight, Fitting, Narrow, Limited};
 ghost use Rattle.plan.specs.Order.{Reflexive, Transitive, Antisymmetric};
 
 use terms::sets::{PermissionSet, RoleSet};
+use terms::short_list::ShortList;
 
 mod adding;
 mod asking;
@@ -15,14 +17,14 @@ mod making;
 pub mod writing;
 
 // "These permissions take at least `least` people."
-#[derive(Clone, Copy)]
+#[derive(Clone, Copy, PartialEq, Eq, Debug)]
 pub struct Policy {
     pub permissions: PermissionSet,
     pub least: u32,
 }
 
 // "Nobody may be authorised for `limit` of these roles."
-#[derive(Clone, Copy)]
+#[derive(Clone, Copy, PartialEq, Eq, Debug)]
 pub struct Constraint {
     pub roles: RoleSet,
     pub limit: u32,
@@ -46,30 +48,28 @@ pub enum PlanFault {
 }
 
 // Row r of `juniors` has the roles that role r is senior to, itself among them; row r of `grants` the permissions
-// granted to it directly. The first policies and constraints, as many as their counts say, are the plan's.
+// granted to it directly.
 #[derive(Clone, Copy)]
 pub struct Plan {
     juniors: [RoleSet; 64],
     grants: [PermissionSet; 64],
-    policies: [Policy; 32],
-    policy_count: usize,
-    constraints: [Constraint; 64],
-    constraint_count: usize,
+    policies: ShortList<Policy, 32>,
+    constraints: ShortList<Constraint, 64>,
     ghost reflexive: { Reflexive juniors },
     ghost transitive: { Transitive juniors },
     ghost antisymmetric: { Antisymmetric juniors },
-    ghost few: { policy_count ≤ 32 },
-    ghost bounded: { constraint_count ≤ 64 },
-    ghost several: { AtLeastTwo policies policy_count },
-    ghost eight: { AtMostEight policies policy_count },
-    ghost fitting: { Fitting policies policy_count },
-    ghost narrow: { Narrow policies policy_count },
-    ghost limited: { Limited constraints constraint_count },
+    ghost few: { length (listed policies) ≤ 32 },
+    ghost bounded: { length (listed constraints) ≤ 64 },
+    ghost several: { AtLeastTwo (listed policies) },
+    ghost eight: { AtMostEight (listed policies) },
+    ghost fitting: { Fitting (listed policies) },
+    ghost narrow: { Narrow (listed policies) },
+    ghost limited: { Limited (listed constraints) },
     ghost whole: { length grants ≡ 64 },
 }
 
 // One thing to be added to a plan.
-#[derive(Clone, Copy)]
+#[derive(Clone, Copy, PartialEq, Eq, Debug)]
 pub enum Addition {
     // the first role is made senior to the second
     Senior(u32, u32),
@@ -82,7 +82,7 @@ pub enum Addition {
 }
 
 // An addition, and what it was answered.
-#[derive(Clone, Copy)]
+#[derive(Clone, Copy, PartialEq, Eq, Debug)]
 pub struct Entry {
     pub addition: Addition,
     pub answer: Result<(), PlanFault>,

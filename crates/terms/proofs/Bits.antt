@@ -6,6 +6,7 @@ use lib.Arith.{digits_mod, bin_ind}
 use lib.Count.{count_trailing_zeros, under}
 use lib.Pow.{pow-lt, shl-shr}
 use Rattle.std.proofs.lemmas.Bool.{cases_eq, cases_lt, cases_order}
+use Rattle.std.proofs.lemmas.Nat.{and_le_r}
 use Rattle.terms.specs.Sets.{bit, In, Within, Lowest, Difference}
 
 pub bit_two : (w k : ℕ) → bit w k < 2
@@ -88,6 +89,15 @@ pub same_digits : (a b : ℕ) → ((k : ℕ) → bit a k ≡ bit b k) → a ≡ 
 same_digits = bin_ind (λ n. (b : ℕ) → ((k : ℕ) → bit n k ≡ bit b k) → n ≡ b)
     (λ b h. sym (no_digits b (λ k. sym (h k) ∙ bit_zero k)))
     (λ n ih b h. omega (arith, ih (b / 2) (λ k. sym (bit_next n k) ∙ h (suc k) ∙ bit_next b k), bit_first n, bit_first b, h 0))
+
+pub same_bit : (a b k : ℕ) → (In k a → In k b) → (In k b → In k a) → bit a k ≡ bit b k
+same_bit a b k f g = elim (cases_eq (bit a k) 1) [
+  | inl e ↦ e ∙ sym (f e)
+  | inr n ↦ elim (cases_eq (bit b k) 1) [ inl e ↦ absurd (n (g e)) | inr m ↦ omega (arith, bit_two a k, bit_two b k) ]
+]
+
+pub same_members : (a b : ℕ) → Within a b → Within b a → a ≡ b
+same_members a b f g = same_digits a b (λ k. same_bit a b k (f k) (g k))
 
 pub or_assoc : (a b c : ℕ) → bit_or (bit_or a b) c ≡ bit_or a (bit_or b c)
 or_assoc a b c = same_digits _ _ (λ k. omega (arith, bit_of_or (bit_or a b) c k, bit_of_or a b k, bit_of_or a (bit_or b c) k, bit_of_or b c k))
@@ -200,4 +210,46 @@ lowest_is w f some =
       member = trailing_at 64 w low;
       low = low;
       least = λ j i. elim (cases_lt j (count_trailing_zeros 64 w)) [ inl l ↦ let z = trailing_low 64 w j l in absurd (omega arith) | inr g ↦ g ];
+    }
+
+-- ---- a word without its lowest member is that word and the one below it
+
+odd_below : (w : ℕ) → In 0 w → ((w - 1) / 2 ≡ w / 2) × ((w - 1) % 2 ≡ 0) × (0 < w)
+odd_below w h = (omega (arith, bit_first w), omega (arith, bit_first w), omega (arith, bit_first w))
+
+even_below : (w : ℕ) → bit w 0 ≡ 0 → 0 < w → (w - 1) / 2 ≡ w / 2 - 1
+even_below w h p = omega (arith, bit_first w)
+
+below_at : (k w : ℕ) → In k w → ((j : ℕ) → j < k → bit w j ≡ 0) → bit (w - 1) k ≡ 0
+below_at zero w h n = bit_first (w - 1) ∙ (odd_below w h).1
+below_at (suc k) w h n =
+    bit_next (w - 1) k ∙ ap (λ x. bit x k) (even_below w (n 0 (omega arith)) (in_pos w (suc k) h))
+    ∙ below_at k (w / 2) (sym (bit_next w k) ∙ h) (λ j l. sym (bit_next w j) ∙ n (suc j) (omega arith))
+
+below_over : (k w j : ℕ) → In k w → ((i : ℕ) → i < k → bit w i ≡ 0) → k < j → bit (w - 1) j ≡ bit w j
+below_over k w zero h n l = absurd (omega arith)
+below_over zero w (suc j) h n l = bit_next (w - 1) j ∙ ap (λ x. bit x j) (odd_below w h).0 ∙ sym (bit_next w j)
+below_over (suc k) w (suc j) h n l =
+    bit_next (w - 1) j ∙ ap (λ x. bit x j) (even_below w (n 0 (omega arith)) (in_pos w (suc k) h))
+    ∙ below_over k (w / 2) j (sym (bit_next w k) ∙ h) (λ i m. sym (bit_next w i) ∙ n (suc i) (omega arith)) (omega arith)
+    ∙ sym (bit_next w j)
+
+pub without_lowest : (w k : ℕ) → Lowest k w → Difference w (2 ^ k) (bit_and w (w - 1))
+without_lowest w k h =
+    let none : (j : ℕ) → j < k → bit w j ≡ 0 = λ j l. bit_off w j (λ i. absurd (let g = h.least j i in omega arith)) in
+    let gone : (j : ℕ) → In j (2 ^ k) → In j (bit_and w (w - 1)) → ⊥ = λ j i m.
+    let e = in_one_only k j i in
+    let o : In k (w - 1) = subst (λ x. In x (w - 1)) e (in_and w (w - 1) j m).1 in
+    absurd (omega (arith, below_at k w h.member none)) in
+    record {
+      inside = λ j m. (in_and w (w - 1) j m).0;
+      other = λ j i. elim (cases_order k j) [
+        | inl e ↦ inl (subst (λ x. In x (2 ^ k)) e (in_one k))
+        | inr s ↦ elim s [
+          | inl l ↦ inr (in_both w (w - 1) j i (below_over k w j h.member none l ∙ i))
+          | inr g ↦ absurd (let z = none j g in omega arith)
+        ]
+      ];
+      apart = gone;
+      less = λ j i m. omega (arith, and_le_r w (w - 1), in_pos w j i);
     }

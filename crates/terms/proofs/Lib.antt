@@ -2,3 +2,4 @@ pub mod Bits
 pub mod Unions
 pub mod Sizes
 pub mod Firsts
+pub mod Lists

@@ -5,7 +5,7 @@ use lib.Arith.{bin_ind}
 use lib.Count.{ones, ones_step, ones_cat}
 use Rattle.std.proofs.lemmas.List.{get_or_past}
 use Rattle.std.proofs.lemmas.Bool.{cases_eq, eq-eqb, ne_eqb}
-use Rattle.terms.specs.Sets.{In, Within, union}
+use Rattle.terms.specs.Sets.{In, Within, Difference, union}
 use Rattle.terms.proofs.Bits.{bit_first, bit_next, in_and, in_both, in_or, in_or_l, in_or_r, in_one_only, less_gone, less_back}
 
 -- a part of a set has no more numbers
@@ -127,3 +127,10 @@ ones_rows rows w q g h i = le_trans (ones_mono q (bit_and (union rows w) q) (λ 
 
 pub past_none : (rows : List ℕ) (a q : ℕ) → length rows ≤ a → ones (bit_and (get_or rows a 0) q) ≡ 0
 past_none rows a q h = subst (λ x. ones (bit_and x q) ≡ 0) (sym (get_or_past rows a 0 h)) (none_and q)
+
+pub ones_rest : (w k v : ℕ) → In k w → Difference w (2 ^ k) v → ones v + 1 ≤ ones w
+ones_rest w k v h d = omega (
+  arith,
+  ones_one k,
+  ones_apart w (2 ^ k) v (λ j i. subst (λ x. In x w) (sym (in_one_only k j i)) h) d.inside d.apart,
+)

@@ -1,10 +1,9 @@
 -- The union of rows: what is in it, and how it grows row after row. Assumes nothing.
-use Rattle.std.proofs.Common.{◌≡◌, ℕ, zero, suc, ◌+◌, ◌/◌, ◌%◌, ◌^◌, ◌<◌, ◌≤◌, Bool, true, false, cond, eqb, List, [], ◌∷◌, length, get_or, drop, sym, refl, ap, ◌∙◌, inl, inr, arith, shr-shr}
+use Rattle.std.proofs.Common.{◌≡◌, ℕ, zero, suc, ◌/◌, ◌%◌, ◌^◌, Bool, true, false, cond, eqb, List, [], ◌∷◌, get_or, sym, refl, ap, ◌∙◌, subst, inl, inr, arith}
 use lib.Bits.{bit_or, or_zero_r}
-use Rattle.std.proofs.lemmas.List.{drop_more, drop_all}
-use Rattle.std.proofs.lemmas.Bool.{eq-eqb, ne_eqb, eqb-true}
-use Rattle.terms.specs.Sets.{bit, In, union}
-use Rattle.terms.proofs.Bits.{bit_zero, bit_first, bit_next, in_or, in_or_l, in_or_r, or_assoc}
+use Rattle.std.proofs.lemmas.Bool.{eq-eqb, eqb-true}
+use Rattle.terms.specs.Sets.{In, Difference, union}
+use Rattle.terms.proofs.Bits.{bit_zero, bit_first, bit_next, in_or, in_or_l, in_or_r, in_one_only, none_in, nothing_left, or_assoc, same_members}
 
 -- what is in a union of rows
 pub union_in : (rows : List ℕ) (w i k : ℕ) → In i w → In k (get_or rows i 0) → In k (union rows w)
@@ -24,26 +23,25 @@ union_of (row ∷ rows) w k h = elim (in_or (cond (eqb (w % 2) 1) row 0) (union 
   | inr q ↦ let r = union_of rows (w / 2) k q in (suc r.0, bit_next w r.0 ∙ r.1, r.2)
 ]
 
--- what the rows from i on give
-abbrev pub rest : List ℕ → ℕ → ℕ → ℕ
-rest rows w i = union (drop i rows) (w / 2 ^ i)
+-- ---- row by row, by the members of the set
+pub union_next : (rows : List ℕ) (w v k : ℕ) → In k w → Difference w (2 ^ k) v → union rows w ≡ bit_or (get_or rows k 0) (union rows v)
+union_next rows w v k h d =
+    let row = get_or rows k 0 in
+    same_members (union rows w) (bit_or row (union rows v))
+    (λ j i. let u = union_of rows w j i in elim (d.other u.0 u.1) [
+      | inl o ↦ in_or_l row (union rows v) j (subst (λ x. In j (get_or rows x 0)) (in_one_only k u.0 o) u.2)
+      | inr m ↦ in_or_r row (union rows v) j (union_in rows v u.0 j m u.2)
+    ])
+    (λ j i. elim (in_or row (union rows v) j i) [
+      | inl r ↦ union_in rows w k j h r
+      | inr m ↦ let u = union_of rows v j m in union_in rows w u.0 j (d.inside u.0 u.1) u.2
+    ])
 
-rest_more : (rows : List ℕ) (w i : ℕ) → i < length rows → rest rows w i ≡ bit_or (cond (eqb (bit w i) 1) (get_or rows i 0) 0) (rest rows w (i + 1))
-unfolding bit
-rest_more rows w i h =
-    ap (λ xs. union xs (w / 2 ^ i)) (drop_more rows i 0 h)
-    ∙ ap (λ x. bit_or (cond (eqb (bit w i) 1) (get_or rows i 0) 0) (union (drop (i + 1) rows) x)) (shr-shr w i 1)
+pub step_next : (rows : List ℕ) (w v k acc u : ℕ) → In k w → Difference w (2 ^ k) v → bit_or acc (union rows w) ≡ u → bit_or (bit_or acc (get_or rows k 0)) (union rows v) ≡ u
+step_next rows w v k acc u h d e = or_assoc acc (get_or rows k 0) (union rows v) ∙ ap (bit_or acc) (sym (union_next rows w v k h d)) ∙ e
 
-pub step_in : (rows : List ℕ) (w i acc u : ℕ) → i < length rows → In i w → bit_or acc (rest rows w i) ≡ u → bit_or (bit_or acc (get_or rows i 0)) (rest rows w (i + 1)) ≡ u
-step_in rows w i acc u l h e =
-    or_assoc acc (get_or rows i 0) (rest rows w (i + 1))
-    ∙ ap (bit_or acc) (sym (rest_more rows w i l ∙ ap (λ t. bit_or (cond t (get_or rows i 0) 0) (rest rows w (i + 1))) (eq-eqb (bit w i) 1 h)))
-    ∙ e
+pub union_none : (rows : List ℕ) → union rows 0 ≡ 0
+union_none rows = nothing_left (union rows 0) (λ k h. let u = union_of rows 0 k h in none_in u.0 u.1)
 
-pub step_out : (rows : List ℕ) (w i acc u : ℕ) → i < length rows → (In i w → ⊥) → bit_or acc (rest rows w i) ≡ u → bit_or acc (rest rows w (i + 1)) ≡ u
-step_out rows w i acc u l h e =
-    ap (bit_or acc) (sym (rest_more rows w i l ∙ ap (λ t. bit_or (cond t (get_or rows i 0) 0) (rest rows w (i + 1))) (ne_eqb (bit w i) 1 h)))
-    ∙ e
-
-pub at_end : (rows : List ℕ) (w i acc u : ℕ) → length rows ≤ i → bit_or acc (rest rows w i) ≡ u → acc ≡ u
-at_end rows w i acc u l e = sym (or_zero_r acc) ∙ ap (λ xs. bit_or acc (union xs (w / 2 ^ i))) (sym (drop_all i rows l)) ∙ e
+pub at_none : (rows : List ℕ) (w acc u : ℕ) → w ≡ 0 → bit_or acc (union rows w) ≡ u → acc ≡ u
+at_none rows w acc u z e = sym (or_zero_r acc) ∙ ap (bit_or acc) (sym (ap (union rows) z ∙ union_none rows)) ∙ e

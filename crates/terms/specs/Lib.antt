@@ -1,3 +1,4 @@
 pub mod Sets
 pub mod Refusals
 pub mod Firsts
+pub mod Lists

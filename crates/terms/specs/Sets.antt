@@ -1,5 +1,5 @@
 -- Sets of numbers as words: a number is a member of a word where the word's bit at that place is 1.
-use Rattle.std.specs.Prelude.{◌≡◌, ℕ, ◌/◌, ◌%◌, ◌^◌, ◌<◌, ◌≤◌, cond, ◌⊎◌, List, [], ◌∷◌, ◌==◌, bit_or}
+use Rattle.std.specs.Prelude.{◌≡◌, ℕ, ◌/◌, ◌%◌, ◌^◌, ◌<◌, ◌≤◌, cond, ◌⊎◌, List, [], ◌∷◌, ◌==◌, Option, MatchOption, bit_or}
 
 -- the bit of the word w at place k
 unfoldable pub bit : ℕ → ℕ → ℕ
@@ -30,3 +30,7 @@ pub record Difference (w g r : ℕ) : Type 0 where
 abbrev pub union : List ℕ → ℕ → ℕ
 union [] w = 0
 union (row ∷ rows) w = bit_or (cond (w % 2 == 1) row 0) (union rows (w / 2))
+
+-- r is the lowest member of w, if there is one, and v has the other members
+abbrev pub NextMember : ℕ → Option ℕ → ℕ → Type 0
+NextMember w r v = MatchOption r ((w ≡ 0) × (v ≡ 0)) (λ k. Lowest k w × Difference w (2 ^ k) v)

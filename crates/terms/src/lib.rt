@@ -3,3 +3,4 @@
 
 pub mod refusals;
 pub mod sets;
+pub mod short_list;

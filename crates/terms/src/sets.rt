@@ -1,6 +1,7 @@
 // Sets of roles, or of permissions, as 64-bit words: number k is a member where the bit k is 1.
-ghost use Rattle.std.specs.Prelude.{◌≡◌, ℕ, ◌^◌, ◌<◌, ◌≤◌, true, if◌then◌else◌, MatchOption, bit_or, nat_lt};
-ghost use Rattle.terms.specs.Sets.{In, Difference, Lowest};
+ghost use Rattle.std.specs.Prelude.{◌≡◌, ℕ, ◌^◌, ◌<◌, ◌≤◌, true, if◌then◌else◌, MatchOption, bit_or, count_ones, nat_lt};
+ghost use Rattle.std.specs.Iterator.{at_most};
+ghost use Rattle.terms.specs.Sets.{In, Difference, Lowest, NextMember};
 
 // A set of roles, numbers from 0 to 63.
 pub type RoleSet = u64;
@@ -42,4 +43,33 @@ pub fn lowest(members: u64) -> Option<u32>
         return None;
     }
     Some(members.trailing_zeros())
+}
+
+// What is left of a set, of which the lowest member comes next.
+#[derive(Clone, Copy)]
+pub struct Members {
+    left: u64,
+}
+
+impl Members {
+    // The members of a set, lowest first.
+    pub fn of(set: u64) -> Members
+        ensures { result.left ≡ set }
+    {
+        Members { left: set }
+    }
+}
+
+impl Iterator for Members {
+    type Item = u32;
+
+    ghost next_gives = { λ s r t. NextMember s.left r t.left };
+
+    ghost remaining = { λ s. at_most (count_ones s.left) };
+
+    fn next(&mut self) -> Option<u32> {
+        let member = lowest(self.left)?;
+        self.left &= self.left - 1;
+        Some(member)
+    }
 }

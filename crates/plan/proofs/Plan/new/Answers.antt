@@ -1,14 +1,16 @@
-use Rattle.std.proofs.Common.{ℕ, refl, arith}
 use Rattle.plan.proofs.Tables.{zeros}
 use Rattle.plan.proofs.Seniority.{alone_low, alone_reflexive, alone_transitive, alone_antisymmetric}
 use Rattle.plan.proofs.Histories.{means_none}
-use lib.ListN.{length-replicate}
 use Rattle.plan.proofs.Plan.new.Goals as goal
 
-pub invariant_of-result : goal.invariant_of-result
-invariant_of-result c =
-    let i = c.alone-juniors.ensures.inside in
-    let p = c.alone-juniors.ensures.past in record { reflexive = alone_reflexive _ i p; transitive = alone_transitive _ i p; antisymmetric = alone_antisymmetric _ i p; few = omega arith; bounded = omega arith; several = (λ k l. omega arith); eight = (λ k l. omega arith); fitting = (λ k l. omega arith); narrow = (λ k l. omega arith); limited = (λ k l. omega arith); whole = length-replicate {A = ℕ} 64 0 }
+pub invariant_of-result-clause-reflexive : goal.invariant_of-result-clause-reflexive
+invariant_of-result-clause-reflexive c = alone_reflexive _ c.alone.ensures.inside c.alone.ensures.past
+
+pub invariant_of-result-clause-transitive : goal.invariant_of-result-clause-transitive
+invariant_of-result-clause-transitive c = alone_transitive _ c.alone.ensures.inside c.alone.ensures.past
+
+pub invariant_of-result-clause-antisymmetric : goal.invariant_of-result-clause-antisymmetric
+invariant_of-result-clause-antisymmetric c = alone_antisymmetric _ c.alone.ensures.inside c.alone.ensures.past
 
 pub returns : goal.returns
-returns c = means_none _ (alone_low _ c.alone-juniors.ensures.inside c.alone-juniors.ensures.past) (zeros 64) refl refl
+returns c = means_none _ (alone_low _ c.alone.ensures.inside c.alone.ensures.past) (zeros 64) c.new.ensures c.new-2.ensures
