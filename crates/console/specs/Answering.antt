@@ -1,5 +1,7 @@
 -- Which answer the console gives for what the service answered.
-use Rattle.std.specs.Prelude.{Ok, Err, Result}
+use Rattle.std.specs.Prelude.{ℕ, List, Ok, Err, Result, vec_items, codes}
+use Rattle.script.specs.Entries.{list_text}
+use Rattle.script.specs.Printing.{set_text}
 use Rattle.plan.specs.declared.PlanFault.{PlanFault}
 use Rattle.console.specs.declared.answers.Reply.{Reply}
 use Rattle.console.specs.declared.answers.Reply.TheVariants as reply
@@ -21,3 +23,9 @@ told (Err fault) = Err (refusal.Addition fault)
 abbrev pub counted : Answer → Outcome
 counted (Ok r) = outcome.Accepted
 counted (Err why) = outcome.Refused
+
+-- how a reply is printed
+abbrev pub reply_text : Reply → List ℕ
+reply_text reply.Accepted = codes "accepted"
+reply_text (reply.Set members) = set_text members.set
+reply_text (reply.Fields list) = list_text list.records (vec_items list.places)

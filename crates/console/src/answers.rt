@@ -1,4 +1,7 @@
 // What calls are answered, and how it is printed.
+ghost use Rattle.std.specs.Prelude.{Some};
+ghost use Rattle.console.specs.Answering.{reply_text};
+
 use judge::{JudgeFault, Witness};
 use plan::PlanFault;
 use script::fields::FieldList;
@@ -35,6 +38,8 @@ pub(crate) enum Refusal {
 pub(crate) type Answer = Result<Reply, Refusal>;
 
 impl fmt::Display for Reply {
+    ghost output = { λ r. Some (reply_text r) };
+
     fn fmt<W: fmt::Write>(&self, f: &mut fmt::Formatter<W>) -> fmt::Result {
         match self {
             Reply::Accepted => write!(f, "accepted"),
