@@ -3,7 +3,7 @@ ghost use Rattle.std.specs.Prelude.{Some};
 ghost use Rattle.script.specs.Printing.{set_text};
 
 use std::fmt;
-use terms::sets::contains;
+use terms::sets;
 
 // A set of roles or of permissions.
 #[derive(Clone, Copy, PartialEq, Eq, Debug)]
@@ -18,11 +18,9 @@ impl fmt::Display for Members {
         write!(f, "{{")?;
         // a space, once a member is printed
         let mut gap = "";
-        for member in 0u32..64 {
-            if contains(self.set, member) {
-                write!(f, "{gap}{member}")?;
-                gap = " ";
-            }
+        for member in sets::Members::of(self.set) {
+            write!(f, "{gap}{member}")?;
+            gap = " ";
         }
         write!(f, "}}")
     }
