@@ -5,6 +5,7 @@ use Rattle.holding.specs.Holding.{HeldWith}
 use Rattle.judge.specs.Search.{Coverable}
 use Rattle.judge.specs.declared.memo.Single.{Single}
 use Rattle.judge.specs.declared.memo.Single.TheVariants.{Unknown, Never, Held}
+use Rattle.judge.specs.declared.memo.Known.{Known}
 use Rattle.judge.specs.declared.memo.Memo.{Memo}
 
 -- of one user and the set s: where it is known that none holds it, and where it is known that one does
@@ -14,6 +15,10 @@ SingleRight p s v = (v ≡ Never → (w : ℕ) → HeldWith p s w → ⊥) × (v
 -- n users cannot hold the set s together; of the empty set nothing is said
 abbrev pub ShortRight : Plan → ℕ → ℕ → Type 0
 ShortRight p s n = 0 < s → Coverable p n s → ⊥
+
+-- what is known of the set s is right
+abbrev pub KnownRight : Plan → ℕ → Known → Type 0
+KnownRight p s k = SingleRight p s k.single × ShortRight p s k.short
 
 -- every slot is right
 abbrev pub SlotsRight : Plan → List ℕ → List Single → List ℕ → Type 0

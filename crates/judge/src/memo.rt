@@ -13,6 +13,13 @@ pub enum Single {
     Held,
 }
 
+// What is known of a set of permissions: of one user, and a number of users who cannot hold it together.
+#[derive(Clone, Copy, PartialEq, Eq, Debug)]
+pub struct Known {
+    pub single: Single,
+    pub short: u8,
+}
+
 // What the search has found out, by sets of permissions. A slot has its whole set, so a wrong place is only slower:
 // whether one user can hold that set, and a number of users who cannot hold it together. The tables are three because
 // judging has a stack of less than 1 MiB: 65536 records of a set and two bytes would take all of it, the tables take 640 KiB.

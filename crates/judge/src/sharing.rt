@@ -4,7 +4,7 @@ ghost use Rattle.judge.specs.Search.{Covers, Fewest, Share, Shared, JoinedBy};
 ghost use Rattle.holding.specs.Holding.{HeldWith};
 ghost use Rattle.judge.specs.Memory.{MemoRight};
 
-use super::memo::{Memo, Single};
+use super::memo::{Known, Memo, Single};
 use super::users::Users;
 use holding::Survey;
 use terms::sets::{Members, PermissionSet, contains, difference, lowest};
@@ -53,18 +53,21 @@ impl<'a> Search<'a> {
         ensures same { self.new.survey.now ≡ self.old.survey.now }
     {
         let i = slot(self.all, held);
-        match self.memo.single(i, held) {
+        let known = self.memo.known(i, held);
+        match known.single {
             Single::Never => return false,
             Single::Held => return true,
             Single::Unknown => {}
         }
         match self.survey.roles_for(held) {
             Some(_) => {
-                self.memo.note_single(i, held, Single::Held);
+                let single = Single::Held;
+                self.memo.note(i, held, Known { single, ..known });
                 true
             }
             None => {
-                self.memo.note_single(i, held, Single::Never);
+                let single = Single::Never;
+                self.memo.note(i, held, Known { single, ..known });
                 false
             }
         }
@@ -98,12 +101,14 @@ impl<'a> Search<'a> {
                 return self.joined(mine, Users::none());
             };
             let i = slot(self.all, left);
-            if n <= self.memo.shortage(i, left) as usize {
+            if n <= self.memo.known(i, left).short as usize {
                 return None;
             }
             let bit = 1u64 << low;
             let Some(others) = self.share(n - 1, difference(left, bit), bit, 0) else {
-                self.memo.note_short(i, left, n as u8);
+                let known = self.memo.known(i, left);
+                let short = n as u8;
+                self.memo.note(i, left, Known { short, ..known });
                 return None;
             };
             return self.joined(mine, others);

@@ -1,8 +1,8 @@
 ghost use Rattle.std.specs.Prelude.{◌≡◌, ◌<◌, true, length, slice_index};
 ghost use Rattle.plan.specs.declared.Plan.{Plan};
-ghost use Rattle.judge.specs.Memory.{SingleRight, ShortRight, MemoRight};
+ghost use Rattle.judge.specs.Memory.{KnownRight, MemoRight};
 
-use super::{Memo, Single};
+use super::{Known, Memo, Single};
 use terms::sets::PermissionSet;
 
 impl<'a> Memo<'a> {
@@ -32,49 +32,31 @@ impl<'a> Memo<'a> {
         i < self.sets.len() && self.sets[i] == held
     }
 
-    // What slot i knows of one user and the set.
-    pub(crate) fn single(&self, i: usize, held: PermissionSet) -> Single
-        ensures { (p : Plan) → MemoRight p self.now → SingleRight p held result }
+    // What slot i knows of the set; nothing where the slot is another set's.
+    pub(crate) fn known(&self, i: usize, held: PermissionSet) -> Known
+        ensures { (p : Plan) → MemoRight p self.now → KnownRight p held result }
     {
         if self.has(i, held) {
-            self.single[i]
+            Known {
+                single: self.single[i],
+                short: self.short[i],
+            }
         } else {
-            Single::Unknown
+            Known {
+                single: Single::Unknown,
+                short: 0,
+            }
         }
-    }
-
-    // A number of users of whom slot i knows that they cannot hold the set together.
-    pub(crate) fn shortage(&self, i: usize, held: PermissionSet) -> u8
-        ensures { (p : Plan) → MemoRight p self.now → ShortRight p held result }
-    {
-        if self.has(i, held) { self.short[i] } else { 0 }
     }
 
     // Slot i has what is known of the set.
-    fn store(&mut self, i: usize, held: PermissionSet, single: Single, short: u8)
-        ensures { (p : Plan) → MemoRight p self.old → SingleRight p held single → ShortRight p held short → MemoRight p self.new }
+    pub(crate) fn note(&mut self, i: usize, held: PermissionSet, known: Known)
+        ensures { (p : Plan) → MemoRight p self.old → KnownRight p held known → MemoRight p self.new }
     {
-        if i >= self.sets.len() {
-            return;
+        if i < self.sets.len() {
+            self.sets[i] = held;
+            self.single[i] = known.single;
+            self.short[i] = known.short;
         }
-        self.sets[i] = held;
-        self.single[i] = single;
-        self.short[i] = short;
-    }
-
-    // Notes what is known of one user and the set.
-    pub(crate) fn note_single(&mut self, i: usize, held: PermissionSet, single: Single)
-        ensures { (p : Plan) → MemoRight p self.old → SingleRight p held single → MemoRight p self.new }
-    {
-        let short = self.shortage(i, held);
-        self.store(i, held, single, short);
-    }
-
-    // Notes a number of users who cannot hold the set together.
-    pub(crate) fn note_short(&mut self, i: usize, held: PermissionSet, users: u8)
-        ensures { (p : Plan) → MemoRight p self.old → ShortRight p held users → MemoRight p self.new }
-    {
-        let single = self.single(i, held);
-        self.store(i, held, single, users);
     }
 }

@@ -13,15 +13,18 @@ pub returns-in_default-lowest-clause-answer : goal.returns-in_default-lowest-cla
 returns-in_default-lowest-clause-answer t c =
     joined_alone c.args.self.now.survey.now.plan.now c.args.n c.args.open c.args.mine c.args.left c.none.result c.joined.result c.in_default.ensures c.in_default-lowest.ensures c.none.ensures (rw c.holdable.ensures.same at c.joined.ensures)
 
-pub returns-then-n-shortage-clause-answer : goal.returns-then-n-shortage-clause-answer
-returns-then-n-shortage-clause-answer t c d =
-    c.shortage.ensures c.args.self.now.survey.now.plan.now (rw c.holdable.ensures.same at c.holdable.new.self.right) (in_pos c.args.left c.in-Some-lowest.low c.in-Some-lowest.ensures.member)
-    (share_coverable c.args.self.now.survey.now.plan.now c.args.n c.args.open c.args.mine c.args.left c.shortage.result c.if-n-shortage.true d)
+pub returns-then-n-known-clause-answer : goal.returns-then-n-known-clause-answer
+returns-then-n-known-clause-answer t c d =
+    (c.known.ensures c.args.self.now.survey.now.plan.now (rw c.holdable.ensures.same at c.holdable.new.self.right)).1 (in_pos c.args.left c.in-Some-lowest.low c.in-Some-lowest.ensures.member)
+    (share_coverable c.args.self.now.survey.now.plan.now c.args.n c.args.open c.args.mine c.args.left c.known.result.short c.if-n-known.true d)
 
 pub invariant_of-self : goal.invariant_of-self
 invariant_of-self t c = record {
-  right = c.note_short.ensures _ c.share.new.self.right (rw c.share.ensures.same (λ _ v. c.in_default-share.ensures.answer
-      (cover_share c.holdable.new.self.survey.now.plan.now c.in-Some-lowest.low _ (one_shl c.in-Some-lowest.low 64 c.in-Some-lowest.ensures.low) c.args.n c.args.left c.difference.result c.difference.ensures c.in-Some-lowest.ensures.member v)));
+  right = c.note.ensures _ c.share.new.self.right (
+    (c.known-known.ensures _ c.share.new.self.right).0,
+    rw c.share.ensures.same (λ _ v. c.in_default-share.ensures.answer
+        (cover_share c.holdable.new.self.survey.now.plan.now c.in-Some-lowest.low _ (one_shl c.in-Some-lowest.low 64 c.in-Some-lowest.ensures.low) c.args.n c.args.left c.difference.result c.difference.ensures c.in-Some-lowest.ensures.member v)),
+  );
 }
 
 pub returns-in_default-share-clause-answer : goal.returns-in_default-share-clause-answer
@@ -35,7 +38,7 @@ returns-in_default-clause-answer t c =
     let d = rw c.holdable.ensures.same at c.in-Some-share.ensures.answer in
     joined_with c.args.self.now.survey.now.plan.now c.args.n c.args.open c.args.mine c.args.left c.in-Some-share.others c.joined-in_default.result c.in_default.ensures d.satisfy
     (shared_all c.args.self.now.survey.now.plan.now c.in-Some-lowest.low _ (one_shl c.in-Some-lowest.low 64 c.in-Some-lowest.ensures.low) c.args.n c.args.left c.difference.result c.difference.ensures c.in-Some-share.others (c.args.n - 1) d)
-    (omega (arith, d.few, c.if-n-shortage.false))
+    (omega (arith, d.few, c.if-n-known.false))
     (rw (c.share.ensures.same, c.holdable.ensures.same) at c.joined-in_default.ensures)
 
 pub share-requires-then-holdable : goal.share-requires-then-holdable
