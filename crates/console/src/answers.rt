@@ -1,5 +1,6 @@
 // What calls are answered, and how it is printed.
-ghost use Rattle.std.specs.Prelude.{Some};
+ghost use Rattle.std.specs.Prelude.{◌≡◌, Some};
+ghost use Rattle.console.specs.declared.answers.Reply.TheVariants.{Set};
 ghost use Rattle.console.specs.Answering.{reply_text};
 
 use judge::{JudgeFault, Witness};
@@ -17,6 +18,15 @@ pub(crate) enum Reply {
     Set(Members),
     // the records of a text, with the places of their fields
     Fields(FieldList),
+}
+
+impl Reply {
+    // The reply with a set of roles or of permissions.
+    pub(crate) fn members(set: u64) -> Reply
+        ensures { result ≡ Set (record { set = set }) }
+    {
+        Reply::Set(Members { set })
+    }
 }
 
 // Why a plan is not accepted, and who could break which of its policies.

@@ -5,29 +5,14 @@ use bit_rows::BitRows;
 use flag_table::FlagTable;
 use generator::Generator;
 use model::Model;
-use register::Register;
-use register::seats::SeatLayer;
 use std::alloc::{AllocError, Global};
-use std::{array, io};
+use std::io;
 use tally::Tally;
-use trial::{compare, note_rows, note_spare};
+use trial::{Trial, note_rows, note_spare};
 
 mod generator;
 mod model;
 mod trial;
-
-// The calls of each run.
-const CALLS: u32 = 1000;
-
-// The seat numbers of a layer: few for some roles, many for others, some above 4,096.
-fn seats(random: &mut Generator) -> [u32; 64] {
-    array::from_fn(|_| match random.below(4) {
-        0 => random.below(3),
-        1 => random.below(40),
-        2 => 4096,
-        _ => 5000,
-    })
-}
 
 // A table of words with any content.
 fn table(heap: Global, words: usize, random: &mut Generator) -> Result<Vec<u64>, AllocError> {
@@ -40,29 +25,6 @@ fn spare(heap: Global, table: &[u64]) -> Result<Vec<u64>, AllocError> {
     table.iter().skip(4096).copied().collect(heap)
 }
 
-// The calls of a run on a register under one layer of seats, which empties it.
-fn under_one<R: Register>(register: &mut R, model: &mut Model, random: &mut Generator) -> Tally {
-    let own = seats(random);
-    model.clear();
-    model.limit(&own);
-    let mut layer = SeatLayer::new(register, own);
-    let tally = compare(&mut layer, model, random, CALLS);
-    let _ = layer.into_below();
-    tally
-}
-
-// The same under two layers.
-fn under_two<R: Register>(register: &mut R, model: &mut Model, random: &mut Generator) -> Tally {
-    let (lower, upper) = (seats(random), seats(random));
-    model.clear();
-    model.limit(&lower);
-    model.limit(&upper);
-    let mut layers = SeatLayer::new(SeatLayer::new(register, lower), upper);
-    let tally = compare(&mut layers, model, random, CALLS);
-    let _ = layers.into_below().into_below();
-    tally
-}
-
 // Bit rows of so many words: the calls of a run, and then the table itself beside the model.
 fn over_rows<F>(
     heap: Global,
@@ -71,14 +33,18 @@ fn over_rows<F>(
     calls: F,
 ) -> Result<Tally, AllocError>
 where
-    F: FnOnce(&mut BitRows, &mut Model, &mut Generator) -> Tally,
+    F: FnOnce(&mut Trial, &mut BitRows) -> Tally,
     requires { F.IsAlwaysCallable calls }
 {
     let mut table = table(heap, words, random)?;
     let before = spare(heap, table.as_slice())?;
     let mut model = Model::of_rows(heap, table.as_slice())?;
     let mut rows = BitRows::new(table.as_mut_slice());
-    let mut tally = calls(&mut rows, &mut model, random);
+    let mut trial = Trial {
+        model: &mut model,
+        random,
+    };
+    let mut tally = calls(&mut trial, &mut rows);
     drop(rows);
     note_rows(&mut tally, &model, table.as_slice());
     note_spare(&mut tally, before.as_slice(), table.as_slice());
@@ -93,7 +59,11 @@ fn flags(heap: Global, users: usize, random: &mut Generator) -> Result<Tally, Al
     let mut model = Model::empty(heap, users)?;
     model.limit(&[seats; 64]);
     let mut table = FlagTable::new(flags.as_mut_slice(), seats);
-    let tally = compare(&mut table, &mut model, random, CALLS);
+    let mut trial = Trial {
+        model: &mut model,
+        random,
+    };
+    let tally = trial.compare(&mut table);
     drop(table);
     Ok(tally)
 }
@@ -106,11 +76,11 @@ fn main(rt: HostRuntime) -> io::Result<()> {
     let heap = rt.alloc();
     let mut random = Generator::new(20261118);
     for words in [0usize, 1, 63, 4096, 5000] {
-        let plain = over_rows(heap, words, &mut random, |r, m, g| compare(r, m, g, CALLS))?;
+        let plain = over_rows(heap, words, &mut random, |t, rows| t.compare(rows))?;
         report(&rt, "bit rows", words, &plain)?;
-        let one = over_rows(heap, words, &mut random, |r, m, g| under_one(r, m, g))?;
+        let one = over_rows(heap, words, &mut random, |t, rows| t.under_one(rows))?;
         report(&rt, "one layer of seats", words, &one)?;
-        let two = over_rows(heap, words, &mut random, |r, m, g| under_two(r, m, g))?;
+        let two = over_rows(heap, words, &mut random, |t, rows| t.under_two(rows))?;
         report(&rt, "two layers of seats", words, &two)?;
     }
     for users in [0usize, 1, 5, 70] {

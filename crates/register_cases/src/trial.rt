@@ -2,6 +2,8 @@
 use super::generator::Generator;
 use super::model::Model;
 use register::Register;
+use register::seats::SeatLayer;
+use std::array;
 use tally::Tally;
 
 // The table that was lent holds the model's rows.
@@ -19,14 +21,17 @@ pub(crate) fn note_spare(tally: &mut Tally, before: &[u64], table: &[u64]) {
     }
 }
 
-// A user, mostly below the number of users.
-fn some_user(model: &Model, random: &mut Generator) -> u32 {
-    let users = model.users().min(5000) as u32;
-    match random.below(20) {
-        0 => users,
-        1 => u32::MAX,
-        _ => random.below(users),
-    }
+// The calls of each run.
+const CALLS: u32 = 1000;
+
+// The seat numbers of a layer: few for some roles, many for others, some above 4,096.
+fn seats(random: &mut Generator) -> [u32; 64] {
+    array::from_fn(|_| match random.below(4) {
+        0 => random.below(3),
+        1 => random.below(40),
+        2 => 4096,
+        _ => 5000,
+    })
 }
 
 // A role, mostly one of few, so that seats fill up.
@@ -40,46 +45,82 @@ fn some_role(random: &mut Generator) -> u32 {
     }
 }
 
-// One call, and whether both answered alike.
-fn call<R: Register>(register: &mut R, model: &mut Model, random: &mut Generator) -> bool {
-    let (user, role) = (some_user(model, random), some_role(random));
-    match random.below(100) {
-        0 => {
-            register.clear();
-            model.clear();
-            true
-        }
-        n if n < 70 => register.add(user, role) == model.add(user, role),
-        _ => register.remove(user, role) == model.remove(user, role),
-    }
+// A run: the model that a register is held against, and where its calls come from.
+#[derive(Drop)]
+pub(crate) struct Trial<'a> {
+    pub(crate) model: &'a mut Model,
+    pub(crate) random: &'a mut Generator,
 }
 
-// Whether the counts agree.
-fn counts<R: Register>(register: &R, model: &Model) -> bool {
-    register.users() as usize == model.users()
-        && register.places() as usize == model.places()
-        && register.pairs() as usize == model.pairs()
-}
-
-// Performs random calls, and compares each answer, every count and every row after it; roles and users past the last are
-// asked for too.
-pub(crate) fn compare<R: Register>(
-    register: &mut R,
-    model: &mut Model,
-    random: &mut Generator,
-    calls: u32,
-) -> Tally {
-    let mut tally = Tally::new();
-    for _ in 0..calls {
-        tally.note(call(register, model, random));
-        tally.note(counts(register, model));
-        for role in 0u32..66 {
-            tally.note(register.members(role) as usize == model.members(role));
-            tally.note(register.seats(role) == model.seats(role));
-        }
-        for user in 0u32..4100 {
-            tally.note(register.row(user) == model.row(user));
+impl Trial<'_> {
+    // A user, mostly below the number of users.
+    fn some_user(&mut self) -> u32 {
+        let users = self.model.users().min(5000) as u32;
+        match self.random.below(20) {
+            0 => users,
+            1 => u32::MAX,
+            _ => self.random.below(users),
         }
     }
-    tally
+
+    // One call, and whether both answered alike.
+    fn call<R: Register>(&mut self, register: &mut R) -> bool {
+        let user = self.some_user();
+        let role = some_role(self.random);
+        match self.random.below(100) {
+            0 => {
+                register.clear();
+                self.model.clear();
+                true
+            }
+            n if n < 70 => register.add(user, role) == self.model.add(user, role),
+            _ => register.remove(user, role) == self.model.remove(user, role),
+        }
+    }
+
+    // Whether the counts agree.
+    fn counts<R: Register>(&self, register: &R) -> bool {
+        register.users() as usize == self.model.users()
+            && register.places() as usize == self.model.places()
+            && register.pairs() as usize == self.model.pairs()
+    }
+
+    // Performs random calls, and compares each answer, every count and every row after it; roles and users past the last
+    // are asked for too.
+    pub(crate) fn compare<R: Register>(&mut self, register: &mut R) -> Tally {
+        let mut tally = Tally::new();
+        for _ in 0..CALLS {
+            tally.note(self.call(register));
+            tally.note(self.counts(register));
+            for role in 0u32..66 {
+                tally.note(register.members(role) as usize == self.model.members(role));
+                tally.note(register.seats(role) == self.model.seats(role));
+            }
+            for user in 0u32..4100 {
+                tally.note(register.row(user) == self.model.row(user));
+            }
+        }
+        tally
+    }
+
+    // The same with the register under one layer of seats, which empties it.
+    pub(crate) fn under_one<R: Register>(&mut self, register: &mut R) -> Tally {
+        let own = seats(self.random);
+        self.model.clear();
+        self.model.limit(&own);
+        let mut layer = SeatLayer::new(register, own);
+        let tally = self.compare(&mut layer);
+        let _ = layer.into_below();
+        tally
+    }
+
+    // The same under two layers.
+    pub(crate) fn under_two<R: Register>(&mut self, register: &mut R) -> Tally {
+        let lower = seats(self.random);
+        self.model.limit(&lower);
+        let mut layer = SeatLayer::new(register, lower);
+        let tally = self.under_one(&mut layer);
+        let _ = layer.into_below();
+        tally
+    }
 }

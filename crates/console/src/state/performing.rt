@@ -1,7 +1,5 @@
 // The calls of the service.
 ghost use Rattle.std.specs.Prelude.{◌≡◌, [], Ok, IfOk};
-ghost use Rattle.plan.specs.Authority.{authorised, held};
-ghost use Rattle.console.specs.declared.answers.Reply.TheVariants.{Set};
 ghost use Rattle.console.specs.Performed.{Begun, Logged, Judged, Fielded, Performed};
 
 use super::State;
@@ -11,9 +9,7 @@ use commission::commission;
 use judge::{JudgedPlan, Witness};
 use plan::{Addition, Entry, Plan};
 use script::fields::list_fields;
-use script::sets::Members;
 use std::alloc::{AllocError, Global};
-use terms::sets::RoleSet;
 
 // The places of the fields in a text.
 fn fields(heap: Global, text: &[u8]) -> Result<Answer, AllocError>
@@ -56,22 +52,6 @@ impl State {
         Ok(answer.map(|()| Reply::Accepted).map_err(Refusal::Addition))
     }
 
-    // The roles that a user with these roles is authorised for.
-    fn authorised_roles(&self, roles: RoleSet) -> Reply
-        ensures { result ≡ Set (record { set = authorised self.now.plan roles }) }
-    {
-        let set = self.plan.authorised(roles);
-        Reply::Set(Members { set })
-    }
-
-    // The permissions that he holds.
-    fn held_permissions(&self, roles: RoleSet) -> Reply
-        ensures { result ≡ Set (record { set = held self.now.plan roles }) }
-    {
-        let set = self.plan.held(roles);
-        Reply::Set(Members { set })
-    }
-
     // Judges the plan that the additions of the log make; it is then the plan being written.
     fn judge(&mut self) -> Answer
         ensures { Judged self.old result self.new }
@@ -92,8 +72,8 @@ impl State {
         match call {
             Call::New => Ok(Ok(self.begin())),
             Call::Add(addition) => self.add(addition),
-            Call::AuthorisedRoles(roles) => Ok(Ok(self.authorised_roles(roles))),
-            Call::HeldPermissions(roles) => Ok(Ok(self.held_permissions(roles))),
+            Call::AuthorisedRoles(roles) => Ok(Ok(Reply::members(self.plan.authorised(roles)))),
+            Call::HeldPermissions(roles) => Ok(Ok(Reply::members(self.plan.held(roles)))),
             Call::Judge => Ok(self.judge()),
             Call::Fields(text) => fields(self.heap, &text),
         }
