@@ -13,7 +13,8 @@ use bit_rows::BitRows;
 use register::seats::SeatLayer;
 use register::{Register, RegisterFault};
 
-// Below, a user and a role are two arguments, as in the calls of `Register` that they are passed on to.
+// Below, a user and a role are two arguments, as in the calls of `Register` that they are passed on to; so are two layers'
+// seats, each for its own call.
 
 // Adds a pair to the pairs that a table of words holds.
 pub fn add_to_table(table: &mut [u64], user: u32, role: u32) -> Result<(), RegisterFault>

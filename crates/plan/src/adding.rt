@@ -19,6 +19,8 @@ fn raise(rows: &mut [RoleSet; 64], senior: u32, gained: RoleSet)
     }
 }
 
+// Each addition answers by its rows, leaves the plan where it is refused, and adds what it says: three facts about a call, not
+// about a plan, so each contract says them.
 impl Plan {
     // Makes one role senior to another, and all that follows from it.
     pub fn senior(&mut self, senior: u32, junior: u32) -> Result<(), PlanFault>

@@ -51,7 +51,8 @@ pub trait Register {
     fn row(&self, user: u32) -> u64
         ensures { result ≡ row (model self.now).rows user };
 
-    // Adds the pair, unless it is held already or a row of `add_rows` refuses it.
+    // Adds the pair, unless it is held already or a row of `add_rows` refuses it. A pair is two arguments, as a map's key and
+    // value are: a struct of them would be made at each call and taken apart in each body.
     fn add(&mut self, user: u32, role: u32) -> Result<(), RegisterFault>
         ensures answer { option_map shown (result_err result) ≡ add_rows (model self.old) user role }
         ensures model { model self.new ≡ added (model self.old) user role }

@@ -42,7 +42,7 @@ impl fmt::Display for Place {
     }
 }
 
-// How many records a text has, and the places of all their fields.
+// How many records a text has, and the places of all their fields: one list, as the fields before a refused one end no record.
 #[derive(PartialEq, Eq, Debug, Drop)]
 pub struct FieldList {
     pub records: usize,

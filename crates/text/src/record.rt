@@ -29,6 +29,7 @@ impl<'a> Reader<'a> {
         ensures { MatchResult result (λ x. ReadRecord self.now.text.now self.now.at slots.old slots.new x) (λ e. BrokenRecord self.now.text.now self.now.at slots.old slots.new e) }
     {
         let mut reader = *self;
+        // the number of fields is what is asked, and each goes to its slot
         let mut count = 0;
         loop {
             let field = reader.next_field()?;

@@ -14,7 +14,8 @@ pub struct WrongRecord {
     pub fault: TextFault,
 }
 
-// The number of records in the text, whatever their number of fields, or the first wrong one.
+// The number of records in the text, whatever their number of fields, or the first wrong one. Counted here, since no iterator
+// over records would end: a reader that refuses stays where it stands.
 #[tactic(auto, using(crate::proofs::Once::reading_unique))]
 pub fn count_records(text: &[u8]) -> Result<usize, WrongRecord>
     ensures count { MatchResult result (λ n. Counted text.now n) (λ w. FirstWrong text.now w) }
@@ -38,7 +39,7 @@ pub fn count_records(text: &[u8]) -> Result<usize, WrongRecord>
 #[derive(Drop)]
 pub struct Walk<'a> {
     reader: Reader<'a>,
-    // whether it stands inside a record: a comma came last
+    // whether it stands inside a record: a comma came last, and the text's end would end one more field
     inside: bool,
 }
 
