@@ -1,4 +1,3 @@
 pub mod Words
-pub mod Made
 pub mod Counting
 pub mod Keeping

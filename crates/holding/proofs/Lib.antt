@@ -1,3 +1,3 @@
 pub mod Holders
 pub mod Bounds
-pub mod Made
+pub mod Most

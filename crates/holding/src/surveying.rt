@@ -31,6 +31,7 @@ fn outside(plan: &Plan) -> [PermissionSet; 64]
     ensures { Outside plan.now result }
 {
     let mut all = [0u64; 64];
+    // at the index: a write through a zipped `iter_mut` leaves no fact of the elements
     for (i, c) in plan.constraints().iter().enumerate() {
         all[i] = elsewhere(plan, c.roles);
     }

@@ -1,5 +1,5 @@
 -- The laws of the first row that applies. Assumes nothing.
-use Rattle.std.proofs.Common.{◌≡◌, ℕ, zero, suc, ◌+◌, ◌<◌, Bool, true, false, ◌⊎◌, Some, None, Option, sym, refl, ap, ◌∙◌, subst, inl, inr, add-one, arith}
+use Rattle.std.proofs.Common.{◌≡◌, ℕ, zero, suc, ◌<◌, Bool, true, false, ◌⊎◌, Some, None, Option, sym, refl, ap, ◌∙◌, subst, inl, inr, arith}
 use Rattle.std.proofs.lemmas.Bool.{cases_eq}
 use Rattle.terms.specs.Refusals.{or_else, when}
 use Rattle.terms.specs.Firsts.{first_below}
@@ -46,9 +46,6 @@ module _ {X : Type 0} (f : ℕ → Option X) where
   first_suc : (n : ℕ) → first_below f (suc n) ≡ or_else (first_below f n) (f n)
   unfolding first_below
   first_suc n = refl
-
-  pub first_more : (n : ℕ) → first_below f (n + 1) ≡ or_else (first_below f n) (f n)
-  first_more n = ap (first_below f) (add-one n) ∙ first_suc n
 
   -- a row that applies after none before it is the first, however many follow
   pub first_here : (n m : ℕ) (x : X) → n < m → first_below f n ≡ None → f n ≡ Some x → first_below f m ≡ Some x

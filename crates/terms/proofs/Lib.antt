@@ -3,3 +3,4 @@ pub mod Unions
 pub mod Sizes
 pub mod Firsts
 pub mod Lists
+pub mod Made

@@ -1,5 +1,5 @@
 -- How many members sets have. Assumes nothing.
-use Rattle.std.proofs.Common.{◌≡◌, ℕ, zero, suc, ◌+◌, ◌*◌, ◌/◌, ◌%◌, ◌^◌, ◌<◌, ◌≤◌, cond, eqb, ◌⊎◌, List, [], ◌∷◌, length, get_or, sym, refl, ap, ◌∙◌, subst, inl, inr, zero-le, le_trans, mod-lt, zero-lt-suc, add-mul, one-mul, arith, pow_pos}
+use Rattle.std.proofs.Common.{◌≡◌, ℕ, suc, ◌+◌, ◌*◌, ◌/◌, ◌%◌, ◌^◌, ◌≤◌, cond, eqb, ◌⊎◌, List, [], ◌∷◌, length, get_or, sym, refl, ap, ◌∙◌, subst, inl, inr, zero-le, le_trans, mod-lt, zero-lt-suc, add-mul, one-mul, arith, pow_pos}
 use lib.Bits.{bit_and, bit_or, bit_xor}
 use lib.Arith.{bin_ind}
 use lib.Count.{ones, ones_step, ones_cat}
@@ -28,10 +28,6 @@ ones_mono = bin_ind (λ n. (b : ℕ) → Within n b → ones n ≤ ones b) (λ b
       low_le n b h,
       ih (b / 2) (λ k i. sym (bit_next b k) ∙ h (suc k) (bit_next n k ∙ i)),
     ))
-
-pub ones_pos : (w : ℕ) → 1 ≤ ones w → 0 < w
-ones_pos zero h = absurd (omega (arith, ones_none))
-ones_pos (suc w) h = omega arith
 
 -- ---- two sets that have no number in common, within a third
 apart_low : (a b c : ℕ) → Within a c → Within b c → ((k : ℕ) → In k a → In k b → ⊥) → a % 2 + b % 2 ≤ c % 2

@@ -1,9 +1,8 @@
 -- One store after another on a page. Assumes nothing.
-use Rattle.std.proofs.Common.{◌≡◌, ℕ, ◌+◌, ◌-◌, ◌<◌, ◌≤◌, List, [], ◌++◌, length, get_or, take, drop, sym, refl, ap, ◌∙◌, subst, append_assoc, append-nil, arith, length-append, length-take, length-drop, Option, Some, None, Ok}
+use Rattle.std.proofs.Common.{◌≡◌, ℕ, ◌+◌, ◌-◌, ◌<◌, ◌≤◌, List, ◌++◌, length, get_or, take, drop, sym, ap, ◌∙◌, subst, append_assoc, arith, length-append, length-take, length-drop}
 use Rattle.std.specs.List.{flat_map}
 use Rattle.std.proofs.lemmas.List.{drop-drop, take_all}
 use Rattle.std.proofs.lemmas.List.Folds.{length-flat_map-take}
-use Rattle.text_out.specs.Stores.{Measured, Fits}
 use Rattle.text_out.specs.Pages.{Room, Appended}
 use Rattle.text_out.specs.declared.page.Page.{Page}
 use Rattle.text_out.proofs.Stored.{joined_take}
@@ -26,9 +25,6 @@ room_then {p} {q} {x} {y} r h = record { fits = omega (arith, r.fits, length-app
 
 pub room_is : {p : Page} {x y : List ℕ} → x ≡ y → Room p x → Room p y
 room_is {p} e r = subst (Room p) e r
-
-pub append_none : (p : Page) → Appended p [] p
-append_none p = record { same = refl; put = record { ends = omega arith; front = sym (append-nil (take p.at p.buffer.now)); back = refl } }
 
 pub append_then : {p q r : Page} {x y : List ℕ} → Appended p x q → Appended q y r → Appended p (x ++ y) r
 append_then {p} {q} {r} {x} {y} h k =
@@ -64,7 +60,3 @@ append_item f xs i d {x} l e h k = append_is (sym (joined_take f xs i d l ∙ ap
 
 pub append_all : {X : Type 0} {p q : Page} (f : X → List ℕ) (xs : List X) (i : ℕ) → length xs ≤ i → Appended p (flat_map f (take i xs)) q → Appended p (flat_map f xs) q
 append_all f xs i l h = append_is (ap (flat_map f) (take_all i xs l)) h
-
-pub room_measured : (page : Page) (text : List ℕ) (n : Option ℕ) → Measured text n → Fits n page.at (length page.buffer.now) (Ok tt) → Room page text
-room_measured page text None m f = absurd f
-room_measured page text (Some n) m f = record { fits = omega (arith, m, f) }

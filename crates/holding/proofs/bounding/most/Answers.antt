@@ -8,7 +8,7 @@ use Rattle.std.proofs.lemmas.Iterator.{YieldsList-from_range, YieldsList-from_ma
 use Rattle.std.proofs.lemmas.Iterator.Consumers.{max_from_yields_List}
 use Rattle.std.proofs.lemmas.List.FromFn.{length-map-range_with_len, get_or-map-range_with_len}
 use Rattle.terms.proofs.Sizes.{past_none}
-use Rattle.holding.proofs.Made.{most_of}
+use Rattle.holding.proofs.Most.{most_of}
 use Rattle.holding.proofs.bounding.most.Goals as goal
 
 pub returns : goal.returns

@@ -1,7 +1,7 @@
 use Rattle.std.proofs.Common.{◌≡◌, ◌^◌, ◌<◌, rules}
 use Rattle.std.proofs.lemmas.Nat.{one_shl}
 use Rattle.plan.specs.Authority.{held}
-use Rattle.holding.proofs.Made.{made_at}
+use Rattle.terms.proofs.Made.{made_at}
 use Rattle.holding.proofs.surveying.gains.Goals as goal
 
 pub returns : goal.returns

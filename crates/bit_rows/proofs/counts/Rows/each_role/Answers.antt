@@ -1,6 +1,6 @@
 use Rattle.std.proofs.Common.{◌≡◌, rules}
 use Rattle.register.specs.Pairs.{members}
-use Rattle.bit_rows.proofs.Made.{made_at}
+use Rattle.terms.proofs.Made.{made_at}
 use Rattle.bit_rows.proofs.counts.Rows.each_role.Goals as goal
 
 pub returns : goal.returns
