@@ -273,7 +273,7 @@ fn witness_cases() -> [Case; 3] {
 }
 
 fn main(rt: HostRuntime) -> io::Result<()> {
-    let _ = starred::starred_cases_hold();
+    starred::starred_cases_hold();
     let mut tally = Tally::new();
     let (policies, constraints, numbers) = (policy_cases(), constraint_cases(), number_cases());
     let (orders, witnesses) = (order_cases(), witness_cases());

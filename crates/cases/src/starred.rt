@@ -2,8 +2,6 @@
 ghost use Rattle.cases.specs.Starred.{Starred};
 
 // Judging, on the plan G and its three changes.
-pub fn starred_cases_hold() -> bool
+pub fn starred_cases_hold()
     ensures { Starred }
-{
-    true
-}
+{}

@@ -19,6 +19,7 @@ fn raise(rows: &mut [RoleSet; 64], senior: u32, gained: RoleSet)
     }
 }
 
+// A policy or a constraint is given as its two numbers, for they are still to be checked: a `Policy` is one that was accepted.
 // Each addition answers by its rows, leaves the plan where it is refused, and adds what it says: three facts about a call, not
 // about a plan, so each contract says them.
 impl Plan {

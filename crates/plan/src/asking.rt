@@ -33,7 +33,8 @@ impl Plan {
         union_of(&self.grants, self.authorised(assigned))
     }
 
-    // The lowest constraint that he breaks, if he breaks one.
+    // The lowest constraint that he breaks, if he breaks one. A loop with the constraint's number, by a rule of the project for
+    // the place that names the constraint of a refusal.
     pub fn broken(&self, assigned: RoleSet) -> Option<usize>
         ensures { MatchOption result (Satisfies self.now assigned) (λ i. LowestBroken self.now assigned i) }
     {
@@ -82,6 +83,8 @@ impl Plan {
     {
         self.constraints.as_slice()
     }
+
+    // Policies and constraints have a call each for their number and for one of a number, as callers ask for them.
 
     // How many policies there are; they are numbered from 0.
     pub fn policy_count(&self) -> usize

@@ -48,7 +48,7 @@ pub enum PlanFault {
 }
 
 // Row r of `juniors` has the roles that role r is senior to, itself among them; row r of `grants` the permissions
-// granted to it directly.
+// granted to it directly. `few` and `bounded` say what the lists' types say, for callers that index by such a number.
 #[derive(Clone, Copy)]
 pub struct Plan {
     juniors: [RoleSet; 64],
@@ -68,7 +68,7 @@ pub struct Plan {
     ghost whole: { length grants ≡ 64 },
 }
 
-// One thing to be added to a plan.
+// One thing to be added to a plan, with the numbers as they were given.
 #[derive(Clone, Copy, PartialEq, Eq, Debug)]
 pub enum Addition {
     // the first role is made senior to the second

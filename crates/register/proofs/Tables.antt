@@ -1,9 +1,9 @@
 -- Sets of pairs: one pair more, one pair less, none, and how many pairs and members there are. Assumes nothing.
-use Rattle.std.proofs.Common.{◌≡◌, ℕ, suc, ◌+◌, ◌*◌, ◌^◌, ◌<◌, ◌≤◌, ◌⊎◌, List, [], ◌∷◌, length, set, replicate, sum_by, sym, refl, ap, ◌∙◌, subst, inl, inr, arith}
+use Rattle.std.proofs.Common.{◌≡◌, ℕ, suc, ◌+◌, ◌*◌, ◌^◌, ◌<◌, ◌≤◌, ◌⊎◌, List, [], ◌∷◌, length, take, set, replicate, sum_by, sym, refl, ap, ◌∙◌, subst, inl, inr, arith}
 use lib.Bits.{bit_or, bit_xor}
 use lib.Count.{ones, ones-le}
 use Rattle.std.proofs.lemmas.List.{ext_get_or, get_or-set_same, get_or-set_other, get_or_past, get_or-replicate, length-replicate}
-use Rattle.std.proofs.lemmas.List.Sums.{sum_by-cons, sum_by-set}
+use Rattle.std.proofs.lemmas.List.Sums.{sum_by-cons, sum_by_more, sum_by-set}
 use Rattle.std.proofs.lemmas.Bool.{cases_eq, cases_lt}
 use Rattle.terms.specs.Sets.{bit, In}
 use Rattle.terms.proofs.Bits.{bit_zero, bit_off, bit_high, same_digits, with_new, with_other, less_gone, less_other, in_or_l, none_in}
@@ -153,3 +153,10 @@ none_members n r = sum_none (λ w. bit w r) (bit_zero r) (replicate n 0) (λ u. 
 pub pairs_most : (t : List ℕ) → ((u : ℕ) → row t u < 2 ^ 64) → pairs t ≤ 64 * length t
 pairs_most [] h = omega arith
 pairs_most (w ∷ t) h = omega (arith, sum_by-cons ones w t, ones-le 64 w (h 0), pairs_most t (λ u. h (suc u)))
+
+-- ---- counting row after row
+pub pairs_more : (t : List ℕ) (i n : ℕ) → i < length t → n ≡ pairs (take i t) → n + ones (row t i) ≡ pairs (take (i + 1) t)
+pairs_more t i n h e = ap (λ x. x + ones (row t i)) e ∙ sym (sum_by_more ones t i 0 h)
+
+pub members_more : (t : List ℕ) (i r n : ℕ) → i < length t → n ≡ having r (take i t) → n + bit (row t i) r ≡ having r (take (i + 1) t)
+members_more t i r n h e = ap (λ x. x + bit (row t i) r) e ∙ sym (sum_by_more (λ w. bit w r) t i 0 h)

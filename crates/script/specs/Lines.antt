@@ -24,4 +24,4 @@ pub record FirstLine (script line after : List ℕ) : Type 0 where
 
 -- the script's first line is handed out, and after is what follows it; nothing, where the script is at its end
 abbrev pub LineStep : List ℕ → Option (Bor (List ℕ)) → List ℕ → Type 0
-LineStep script r after = MatchOption r ((script ≡ []) × (after ≡ [])) (λ line. FirstLine script line.now after)
+LineStep script r after = MatchOption r ((script ≡ []) × (after ≡ [])) (λ line. FirstLine script line.now after × (length after < length script))

@@ -42,7 +42,8 @@ impl fmt::Display for Place {
     }
 }
 
-// How many records a text has, and the places of all their fields: one list, as the fields before a refused one end no record.
+// How many records a text has, and the places of all their fields, in one list: a list for each record would be an allocation
+// for each, and would be printed the same.
 #[derive(PartialEq, Eq, Debug, Drop)]
 pub struct FieldList {
     pub records: usize,

@@ -3,7 +3,8 @@ ghost use Rattle.std.specs.Prelude.{◌≡◌, ℕ, ◌^◌, ◌<◌, ◌≤◌,
 ghost use Rattle.std.specs.Iterator.{at_most};
 ghost use Rattle.terms.specs.Sets.{In, Difference, Lowest, NextMember};
 
-// A set of roles, numbers from 0 to 63.
+// A set of roles, numbers from 0 to 63. A set is a word and not a type of its own: callers lend tables of such words, and give
+// and get them in every call.
 pub type RoleSet = u64;
 
 // A set of permissions, numbers from 0 to 63.

@@ -64,7 +64,7 @@ pub enum TextFault {
     FieldCount(usize),
 }
 
-// Where a field stands: quotes are not counted in.
+// Where a field stands, before its mark is known: quotes are not counted in.
 #[derive(Clone, Copy, PartialEq, Eq, Debug)]
 pub(crate) struct Span {
     pub(crate) quoted: bool,

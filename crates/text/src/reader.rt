@@ -67,8 +67,8 @@ impl<'a> Reader<'a> {
         }
     }
 
-    // Hands out the next record's fields, as many as there are slots, or refuses and stays where it stands; the slots then
-    // hold the fields before the fault.
+    // Hands out the next record's fields, as many as there are slots, or refuses and stays where it stands. The slots are lent
+    // and not the result, since after a refusal they hold the fields before the fault.
     #[tactic(auto, using(crate::proofs::Faulted::at_most_one))]
     pub fn next_record(&mut self, slots: &mut [Field<'a>]) -> Result<(), TextFault>
         ensures same { self.new.text ≡ self.old.text }

@@ -3,7 +3,8 @@ ghost use Rattle.std.specs.Prelude.{◌≡◌, ◌≤◌, length, decimal};
 ghost use Rattle.text_out.specs.Written.{line, header_line, table};
 ghost use Rattle.text_out.specs.Stores.{Measured, Lengthened};
 
-// How many digits `n` has.
+// How many digits `n` has. By recursion, as the digits are stored: what the library says of its logarithm is by powers of ten,
+// and no lemma leads from there to the digits.
 fn width(n: u64) -> usize
     ensures value { result ≡ length (decimal n) }
     ensures bound { result ≤ 20 }

@@ -34,6 +34,8 @@ fn check_room(len: Option<usize>, at: usize, size: usize) -> Result<(), WriteFau
     }
 }
 
+// The next two differ in what they measure and store; what they share is `check_room` and the page.
+
 // Stores a record's line at `at`, unquoted and ended, and answers the place after it; nothing where the buffer is too short.
 pub fn put_line(buffer: &mut [u8], at: usize, numbers: &[u64]) -> Result<usize, WriteFault>
     ensures { Stored buffer.old at (line numbers.now) result buffer.new }
