@@ -2,7 +2,7 @@ ghost use Rattle.std.specs.Prelude.{◌≡◌, true, false, ◌↔◌, is_ok, Ma
 ghost use Rattle.plan.specs.Enforcing.{Breachable, Enforced};
 ghost use Rattle.judge.specs.Judging.{Witnessed};
 
-use super::memo::{Memo, Single};
+use super::memo::{Known, Memo};
 use super::sharing::Search;
 use super::{JudgeFault, JudgedPlan, Witness};
 use holding::Survey;
@@ -28,21 +28,21 @@ impl Search<'_> {
     }
 }
 
-// The same of a plan, with tables of its own.
+// Surveys the plan, and searches it with memo tables on the stack: the witness of its lowest policy that is not enforced, if
+// there is one.
 fn searched(plan: &Plan) -> Option<Witness>
     ensures { MatchOption result (Enforced plan.now) (λ w. Witnessed plan.now w) }
 {
     let survey = Survey::of(plan);
     let mut sets = [0u64; 65536];
-    let mut single = [Single::Unknown; 65536];
-    let mut short = [0u8; 65536];
-    let memo = Memo::over(&mut sets, &mut single, &mut short);
+    let mut known = [Known::NONE; 65536];
+    let memo = Memo::over(&mut sets, &mut known);
     Search::over(&survey, memo).witness()
 }
 
 // Judges a plan. An accepted plan fills the place, and leaves the witness record as it is; of a refused plan, one with a policy that
 // is not enforced, the record tells who could break it, and the place is left as it is. Place and record are the caller's, who
-// keeps both through the call: a judged plan and a record are large, and nothing here has memory of its own to hand out.
+// goes on with both.
 pub fn judge(plan: &Plan, place: &mut JudgedPlan, witness: &mut Witness) -> Result<(), JudgeFault>
     ensures exactly { is_ok result ≡ false ↔ Breachable plan.now }
     ensures accepted { is_ok result ≡ true → (place.new.plan ≡ plan.now) × (witness.new ≡ witness.old) }

@@ -7,23 +7,15 @@ ghost use Rattle.judge.specs.Memory.{MemoRight};
 use super::memo::{Known, Memo, Single};
 use super::users::Users;
 use holding::Survey;
-use terms::sets::{Members, PermissionSet, contains, difference, lowest};
+use terms::sets::{Members, PermissionSet, difference, lowest};
 
-// A search for users of one plan: what was surveyed of it, and what has been found out of it. The sets are looked up by
-// their members in `all`. Each call leaves the survey as it is (`same`), so what it learns of the plan stays true.
+// A search for users of one plan: what was surveyed of it, and what has been found out of it. Each call leaves the survey as
+// it is (`same`), so what it learns of the plan stays true.
 #[derive(Drop)]
 pub struct Search<'a> {
     survey: &'a Survey<'a>,
     memo: Memo<'a>,
-    all: PermissionSet,
     ghost right: { MemoRight survey.now.plan.now memo },
-}
-
-// The slot of a set of permissions: its bits at the permissions of `all`, up to sixteen of them, drawn together.
-fn slot(all: PermissionSet, held: PermissionSet) -> usize {
-    Members::of(all)
-        .take(16)
-        .fold(0, |i, k| (i & 32767) * 2 + contains(held, k) as usize)
 }
 
 impl<'a> Search<'a> {
@@ -32,11 +24,7 @@ impl<'a> Search<'a> {
         requires { MemoRight survey.now.plan.now memo }
         ensures { result.survey.now ≡ survey.now }
     {
-        Search {
-            survey,
-            memo,
-            all: 0,
-        }
+        Search { survey, memo }
     }
 
     // What is surveyed.
@@ -52,25 +40,16 @@ impl<'a> Search<'a> {
         ensures no { result ≡ false → (w : ℕ) → HeldWith self.old.survey.now.plan.now held w → ⊥ }
         ensures same { self.new.survey.now ≡ self.old.survey.now }
     {
-        let i = slot(self.all, held);
-        let known = self.memo.known(i, held);
+        let known = self.memo.known(held);
         match known.single {
             Single::Never => return false,
             Single::Held => return true,
             Single::Unknown => {}
         }
-        match self.survey.roles_for(held) {
-            Some(_) => {
-                let single = Single::Held;
-                self.memo.note(i, held, Known { single, ..known });
-                true
-            }
-            None => {
-                let single = Single::Never;
-                self.memo.note(i, held, Known { single, ..known });
-                false
-            }
-        }
+        let found = self.survey.roles_for(held).is_some();
+        let single = if found { Single::Held } else { Single::Never };
+        self.memo.note(held, Known { single, ..known });
+        found
     }
 
     // The users and one more, with roles that hold `mine`.
@@ -100,15 +79,14 @@ impl<'a> Search<'a> {
             let Some(low) = lowest(left) else {
                 return self.joined(mine, Users::none());
             };
-            let i = slot(self.all, left);
-            if n <= self.memo.known(i, left).short as usize {
+            if n <= self.memo.known(left).short as usize {
                 return None;
             }
             let bit = 1u64 << low;
             let Some(others) = self.share(n - 1, difference(left, bit), bit, 0) else {
-                let known = self.memo.known(i, left);
+                let known = self.memo.known(left);
                 let short = n as u8;
-                self.memo.note(i, left, Known { short, ..known });
+                self.memo.note(left, Known { short, ..known });
                 return None;
             };
             return self.joined(mine, others);
@@ -147,7 +125,7 @@ impl<'a> Search<'a> {
         ensures same { self.new.survey.now ≡ self.old.survey.now }
     {
         let low = lowest(wanted)?;
-        self.all = wanted;
+        self.memo.look_up_in(wanted);
         if self.barren(wanted) {
             return None;
         }

@@ -6,6 +6,9 @@ use Rattle.judge.proofs.sharing.Search.fewest_users.Goals as goal
 pub loop-n-init : goal.loop-n-init
 loop-n-init c = record { more = some_user c.args.self.now.survey.now.plan.now c.args.wanted (omega arith); same = c.barren.ensures.same }
 
+pub invariant_of-self : goal.invariant_of-self
+invariant_of-self c = record { right = c.look_up_in.ensures _ c.args.self.now.right }
+
 pub returns-in-Some-clause-answer : goal.returns-in-Some-clause-answer
 returns-in-Some-clause-answer c =
     let d = rw c.loop-n.invariant.same at c.in-Some.ensures.answer in
