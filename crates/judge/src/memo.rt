@@ -38,3 +38,11 @@ pub struct Memo<'a> {
     all: PermissionSet,
     ghost level: { length known.now ≡ length sets.now },
 }
+
+// A set of permissions, and where the tables have it. It is found once for looking a set up and noting what was learned since:
+// judging the hardest plans takes 2 in 100 longer where each call finds it.
+#[derive(Clone, Copy)]
+pub struct Slot {
+    at: usize,
+    held: PermissionSet,
+}

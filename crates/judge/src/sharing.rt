@@ -40,7 +40,8 @@ impl<'a> Search<'a> {
         ensures no { result ≡ false → (w : ℕ) → HeldWith self.old.survey.now.plan.now held w → ⊥ }
         ensures same { self.new.survey.now ≡ self.old.survey.now }
     {
-        let known = self.memo.known(held);
+        let slot = self.memo.slot(held);
+        let known = self.memo.known(slot);
         match known.single {
             Single::Never => return false,
             Single::Held => return true,
@@ -48,7 +49,7 @@ impl<'a> Search<'a> {
         }
         let found = self.survey.roles_for(held).is_some();
         let single = if found { Single::Held } else { Single::Never };
-        self.memo.note(held, Known { single, ..known });
+        self.memo.note(slot, Known { single, ..known });
         found
     }
 
@@ -79,14 +80,15 @@ impl<'a> Search<'a> {
             let Some(low) = lowest(left) else {
                 return self.joined(mine, Users::none());
             };
-            if n <= self.memo.known(left).short as usize {
+            let slot = self.memo.slot(left);
+            if n <= self.memo.known(slot).short as usize {
                 return None;
             }
             let bit = 1u64 << low;
             let Some(others) = self.share(n - 1, difference(left, bit), bit, 0) else {
-                let known = self.memo.known(left);
+                let known = self.memo.known(slot);
                 let short = n as u8;
-                self.memo.note(left, Known { short, ..known });
+                self.memo.note(slot, Known { short, ..known });
                 return None;
             };
             return self.joined(mine, others);

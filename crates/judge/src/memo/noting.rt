@@ -2,7 +2,7 @@ ghost use Rattle.std.specs.Prelude.{◌≡◌, ◌<◌, true, length, slice_inde
 ghost use Rattle.plan.specs.declared.Plan.{Plan};
 ghost use Rattle.judge.specs.Memory.{KnownRight, MemoRight};
 
-use super::{Known, Memo};
+use super::{Known, Memo, Slot};
 use terms::sets::{Members, PermissionSet, contains};
 
 impl<'a> Memo<'a> {
@@ -27,39 +27,40 @@ impl<'a> Memo<'a> {
     }
 
     // The slot of a set: its bits at the permissions of `all`, up to sixteen of them, drawn together.
-    fn slot(&self, held: PermissionSet) -> usize {
-        Members::of(self.all)
+    pub(crate) fn slot(&self, held: PermissionSet) -> Slot
+        ensures { result.held ≡ held }
+    {
+        let at = Members::of(self.all)
             .take(16)
-            .fold(0, |i, k| (i & 32767) * 2 + contains(held, k) as usize)
+            .fold(0, |i, k| (i & 32767) * 2 + contains(held, k) as usize);
+        Slot { at, held }
     }
 
-    // Whether slot i is the set's.
-    fn has(&self, i: usize, held: PermissionSet) -> bool
-        ensures { result ≡ true → (i < length self.now.sets.now) × (slice_index self.now.sets.now i ≡ held) }
+    // Whether the tables have the set in its slot, and not another.
+    fn has(&self, slot: Slot) -> bool
+        ensures { result ≡ true → (slot.at < length self.now.sets.now) × (slice_index self.now.sets.now slot.at ≡ slot.held) }
     {
-        i < self.sets.len() && self.sets[i] == held
+        slot.at < self.sets.len() && self.sets[slot.at] == slot.held
     }
 
     // What is known of the set; nothing where its slot is another set's.
-    pub(crate) fn known(&self, held: PermissionSet) -> Known
-        ensures { (p : Plan) → MemoRight p self.now → KnownRight p held result }
+    pub(crate) fn known(&self, slot: Slot) -> Known
+        ensures { (p : Plan) → MemoRight p self.now → KnownRight p slot.held result }
     {
-        let i = self.slot(held);
-        if self.has(i, held) {
-            self.known[i]
+        if self.has(slot) {
+            self.known[slot.at]
         } else {
             Known::NONE
         }
     }
 
-    // The set's slot has what is known of it.
-    pub(crate) fn note(&mut self, held: PermissionSet, known: Known)
-        ensures { (p : Plan) → MemoRight p self.old → KnownRight p held known → MemoRight p self.new }
+    // The slot has its set, and what is known of it.
+    pub(crate) fn note(&mut self, slot: Slot, known: Known)
+        ensures { (p : Plan) → MemoRight p self.old → KnownRight p slot.held known → MemoRight p self.new }
     {
-        let i = self.slot(held);
-        if i < self.sets.len() {
-            self.sets[i] = held;
-            self.known[i] = known;
+        if slot.at < self.sets.len() {
+            self.sets[slot.at] = slot.held;
+            self.known[slot.at] = known;
         }
     }
 }

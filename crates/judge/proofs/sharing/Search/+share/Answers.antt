@@ -15,14 +15,14 @@ returns-in_default-lowest-clause-answer t c =
 
 pub returns-then-n-known-clause-answer : goal.returns-then-n-known-clause-answer
 returns-then-n-known-clause-answer t c d =
-    (c.known.ensures c.args.self.now.survey.now.plan.now (rw c.holdable.ensures.same at c.holdable.new.self.right)).1 (in_pos c.args.left c.in-Some-lowest.low c.in-Some-lowest.ensures.member)
+    (rw c.slot-slot.ensures at (c.known.ensures c.args.self.now.survey.now.plan.now (rw c.holdable.ensures.same at c.holdable.new.self.right)).1) (in_pos c.args.left c.in-Some-lowest.low c.in-Some-lowest.ensures.member)
     (share_coverable c.args.self.now.survey.now.plan.now c.args.n c.args.open c.args.mine c.args.left c.known.result.short c.if-n-known.true d)
 
 pub invariant_of-self : goal.invariant_of-self
 invariant_of-self t c = record {
   right = c.note.ensures _ c.share.new.self.right (
     (c.known-known.ensures _ c.share.new.self.right).0,
-    rw c.share.ensures.same (λ _ v. c.in_default-share.ensures.answer
+    rw (c.slot-slot.ensures, c.share.ensures.same) (λ _ v. c.in_default-share.ensures.answer
         (cover_share c.holdable.new.self.survey.now.plan.now c.in-Some-lowest.low _ (one_shl c.in-Some-lowest.low 64 c.in-Some-lowest.ensures.low) c.args.n c.args.left c.difference.result c.difference.ensures c.in-Some-lowest.ensures.member v)),
   );
 }
