@@ -1,12 +1,24 @@
-ghost use Rattle.std.specs.Prelude.{◌≡◌, true, false, ◌↔◌, is_ok, MatchOption};
+ghost use Rattle.std.specs.Prelude.{◌≡◌, true, false, ◌↔◌, is_ok, length, take, MatchOption};
+ghost use Rattle.terms.specs.Lists.{listed};
 ghost use Rattle.plan.specs.Enforcing.{Breachable, Enforced};
+ghost use Rattle.judge.specs.Empties.{EmptyFrom};
 ghost use Rattle.judge.specs.Judging.{Witnessed};
 
 use super::memo::{Known, Memo};
-use super::sharing::Search;
+use super::sharing::{Search, Users};
 use super::{JudgeFault, JudgedPlan, Witness};
 use holding::Survey;
 use plan::Plan;
+use std::array;
+use terms::sets::RoleSet;
+
+// The roles of each user; the sets after the last are empty.
+fn roles_of(users: &Users) -> [RoleSet; 7]
+    ensures users { take (length (listed users.now)) result ≡ listed users.now }
+    ensures rest { EmptyFrom result (length (listed users.now)) }
+{
+    array::from_fn(|i| users.as_slice().get(i).copied().unwrap_or(0))
+}
 
 impl Search<'_> {
     // The witness of the lowest policy that is not enforced, if there is one.
@@ -14,12 +26,13 @@ impl Search<'_> {
         ensures { MatchOption result (Enforced self.old.survey.now.plan.now) (λ w. Witnessed self.old.survey.now.plan.now w) }
     {
         let plan = self.survey().plan();
+        // a loop, and not `find_map`: each turn changes the memo through `self`, of which the closure's caller keeps no fact
         for (i, policy) in plan.policies().iter().enumerate() {
             if let Some(found) = self.fewest_users(policy.permissions, policy.least) {
-                let roles = found.roles;
+                let roles = roles_of(&found);
                 return Some(Witness {
                     policy: i,
-                    users: found.count,
+                    users: found.len(),
                     roles,
                 });
             }

@@ -1,13 +1,17 @@
 // Several users: how a set of permissions can be shared out, so that as few as possible hold it together.
 ghost use Rattle.std.specs.Prelude.{◌≡◌, ℕ, ◌+◌, ◌<◌, ◌≤◌, true, false, List, length, MatchOption};
+ghost use Rattle.terms.specs.Lists.{listed};
 ghost use Rattle.judge.specs.Search.{Covers, Fewest, Share, Shared, JoinedBy};
 ghost use Rattle.holding.specs.Holding.{HeldWith};
 ghost use Rattle.judge.specs.Memory.{MemoRight};
 
 use super::memo::{Known, Memo, Single};
-use super::users::Users;
 use holding::Survey;
-use terms::sets::{Members, PermissionSet, difference, lowest};
+use terms::sets::{Members, PermissionSet, RoleSet, difference, lowest};
+use terms::short_list::ShortList;
+
+// At most seven users, by their assigned roles.
+pub(crate) type Users = ShortList<RoleSet, 7>;
 
 // A search for users of one plan: what was surveyed of it, and what has been found out of it. Each call leaves the survey as
 // it is (`same`), so what it learns of the plan stays true.
@@ -55,10 +59,13 @@ impl<'a> Search<'a> {
 
     // The users and one more, with roles that hold `mine`.
     fn joined(&self, mine: PermissionSet, others: Users) -> Option<Users>
-        requires few { others.count < 7 }
-        ensures { MatchOption result ((w : ℕ) → HeldWith self.now.survey.now.plan.now mine w → ⊥) (λ us. JoinedBy self.now.survey.now.plan.now mine others us) }
+        requires few { length (listed others) < 7 }
+        ensures { MatchOption result ((w : ℕ) → HeldWith self.now.survey.now.plan.now mine w → ⊥) (λ us. JoinedBy self.now.survey.now.plan.now mine (listed others) (listed us)) }
     {
-        Some(others.with(self.survey.roles_for(mine)?))
+        let word = self.survey.roles_for(mine)?;
+        let mut users = others;
+        users.push(word).ok()?;
+        Some(users)
     }
 
     // One user who holds `mine`, and at most `n` others, who hold `left`; each permission of `open` is held by him or by them.
@@ -70,7 +77,7 @@ impl<'a> Search<'a> {
         left: PermissionSet,
     ) -> Option<Users>
         requires few { n < 7 }
-        ensures answer { MatchOption result (Share self.old.survey.now.plan.now n «open» mine left → ⊥) (λ us. Shared self.old.survey.now.plan.now n «open» mine left us) }
+        ensures answer { MatchOption result (Share self.old.survey.now.plan.now n «open» mine left → ⊥) (λ us. Shared self.old.survey.now.plan.now n «open» mine left (listed us)) }
         ensures same { self.new.survey.now ≡ self.old.survey.now }
     {
         let Some(k) = lowest(open) else {
@@ -78,7 +85,7 @@ impl<'a> Search<'a> {
                 return None;
             }
             let Some(low) = lowest(left) else {
-                return self.joined(mine, Users::none());
+                return self.joined(mine, Users::new(0));
             };
             let slot = self.memo.slot(left);
             if n <= self.memo.known(slot).short as usize {
@@ -112,6 +119,7 @@ impl<'a> Search<'a> {
         ensures answer { result ≡ true → (ws : List ℕ) → Covers self.old.survey.now.plan.now wanted ws → ⊥ }
         ensures same { self.new.survey.now ≡ self.old.survey.now }
     {
+        // a loop, and not `any`: each turn changes the memo through `self`, of which the closure's caller keeps no fact
         for k in Members::of(wanted) {
             if !self.holdable(1u64 << k) {
                 return true;
@@ -123,7 +131,7 @@ impl<'a> Search<'a> {
     // The fewest users, if fewer than `below`, who satisfy the constraints and together hold all of `wanted`.
     pub(crate) fn fewest_users(&mut self, wanted: PermissionSet, below: u32) -> Option<Users>
         requires few { (below ≤ 8) × (0 < wanted) }
-        ensures answer { MatchOption result ((ws : List ℕ) → Covers self.old.survey.now.plan.now wanted ws → below ≤ length ws) (λ us. Fewest self.old.survey.now.plan.now wanted below us) }
+        ensures answer { MatchOption result ((ws : List ℕ) → Covers self.old.survey.now.plan.now wanted ws → below ≤ length ws) (λ us. Fewest self.old.survey.now.plan.now wanted below (listed us)) }
         ensures same { self.new.survey.now ≡ self.old.survey.now }
     {
         let low = lowest(wanted)?;
@@ -133,6 +141,7 @@ impl<'a> Search<'a> {
         }
         let bit = 1u64 << low;
         let rest = difference(wanted, bit);
+        // a loop, for the same reason as in `barren`
         for n in 0..(below as usize).saturating_sub(1) {
             if let Some(us) = self.share(n, rest, bit, 0) {
                 return Some(us);

@@ -1,5 +1,6 @@
 use Rattle.std.proofs.Common.{◌∙◌, arith}
 use Rattle.std.proofs.lemmas.Nat.{one_shl}
+use Rattle.terms.specs.Lists.{listed}
 use Rattle.judge.proofs.Shares.{some_user, shared_all, more_users}
 use Rattle.judge.proofs.sharing.Search.fewest_users.Goals as goal
 
@@ -15,7 +16,7 @@ returns-in-Some-clause-answer c =
     record {
       cover = record {
         satisfy = d.satisfy;
-        whole = shared_all _ c.in_ok-low.low _ (one_shl c.in_ok-low.low 64 c.in_ok-low.ensures.low) 0 c.args.wanted _ c.difference-rest.ensures c.in-Some.us c.loop-n.n d;
+        whole = shared_all _ c.in_ok-low.low _ (one_shl c.in_ok-low.low 64 c.in_ok-low.ensures.low) 0 c.args.wanted _ c.difference-rest.ensures (listed c.in-Some.us) c.loop-n.n d;
       };
       few = omega (arith, d.few);
       least = λ ws k. omega (arith, c.loop-n.invariant.more ws k, d.few);
