@@ -1,5 +1,7 @@
 // Bounds on what the user can come to hold. Each is sound; which constraints are looked at is free.
 ghost use Rattle.std.specs.Prelude.{◌≡◌, ℕ, ◌+◌, ◌-◌, ◌≤◌, true, bit_and, count_ones, slice_index};
+ghost use Rattle.terms.specs.Sets.{Difference};
+ghost use Rattle.plan.specs.Authority.{held};
 ghost use Rattle.holding.specs.Search.{Nobody, NamedRight};
 
 use super::surveying::elsewhere;
@@ -25,6 +27,13 @@ fn grantors(plan: &Plan, wanted: PermissionSet) -> RoleSet {
 }
 
 impl Sought<'_> {
+    // What is wanted that the roles `word` do not bring him.
+    fn open(&self) -> PermissionSet
+        ensures { Difference self.now.wanted (held self.now.survey.now.plan.now self.now.word) result }
+    {
+        difference(self.wanted, self.survey.plan.held(self.word))
+    }
+
     // How many roles of a constraint he may still take.
     pub(crate) fn slack(&self, c: &Constraint) -> u32
         ensures { result ≡ c.now.limit - 1 - count_ones (bit_and self.now.all c.now.roles) }
@@ -39,8 +48,9 @@ impl Sought<'_> {
         ensures { result ≡ true → Nobody self.now }
     {
         let plan = self.survey.plan;
-        let open = difference(self.wanted, plan.held(self.word));
+        let open = self.open();
         let each = most(plan, open);
+        // a loop: an `any` would have to name `here` in its answer, of which `difference` says only which members it has
         for (c, apart) in plan.constraints().iter().zip(&self.survey.outside) {
             let here = difference(open, *apart);
             if here.count_ones() as u64 > self.slack(c) as u64 * each as u64 {
@@ -58,6 +68,7 @@ impl Sought<'_> {
         ensures small { result.spare ≤ before.spare + 4096 }
     {
         let mut named = before;
+        // a loop: that the spare roles stay few rests on how many constraints have come, which the closure of a `fold` cannot say
         for c in self.survey.plan.constraints() {
             let slack = self.slack(c);
             let fresh = difference(c.roles & useful, named.roles).count_ones();
@@ -76,7 +87,7 @@ impl Sought<'_> {
         ensures { result ≡ true → Nobody self.now }
     {
         let plan = self.survey.plan;
-        let open = difference(self.wanted, plan.held(self.word));
+        let open = self.open();
         let useful = difference(grantors(plan, open), self.all);
         let each = most(plan, open);
         let mut named = Named { roles: 0, spare: 0 };

@@ -13,7 +13,8 @@ mod searching;
 mod surveying;
 
 // A plan with what the search reads of it again and again: what each role holds by itself, and for each constraint what is
-// granted to roles that it does not name.
+// granted to roles that it does not name. The tables are derived from a plan that is borrowed, by its numbers of roles and of
+// constraints, and are read beside it; they are no parts of one record.
 #[derive(Drop)]
 pub struct Survey<'a> {
     plan: &'a Plan,

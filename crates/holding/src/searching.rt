@@ -73,6 +73,7 @@ impl<'a> Sought<'a> {
         if self.beyond() || self.together() {
             return None;
         }
+        // a loop: the closure of a `find_map` would call `holder` again, and be in its cycle of calls
         for (r, gain) in self.survey.gains.iter().enumerate() {
             if contains(plan.granted(r as u32), k) {
                 let rest = difference(self.wanted, *gain);

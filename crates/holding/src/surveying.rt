@@ -1,7 +1,7 @@
 ghost use Rattle.std.specs.Prelude.{◌≡◌, ℕ, ◌⊎◌};
 ghost use Rattle.terms.specs.Sets.{In};
 ghost use Rattle.plan.specs.Authority.{Granted};
-ghost use Rattle.holding.specs.Tables.{Gains, Outside};
+ghost use Rattle.holding.specs.Tables.{Gains, Apart, Outside};
 
 use super::Survey;
 use plan::Plan;
@@ -26,16 +26,21 @@ pub(crate) fn elsewhere(plan: &Plan, roles: RoleSet) -> PermissionSet
     all
 }
 
+// What is granted to roles that one constraint does not name; nothing where the plan has none of that number.
+fn apart(plan: &Plan, number: usize) -> PermissionSet
+    ensures { Apart plan.now number result }
+{
+    match plan.constraint_at(number) {
+        Some(c) => elsewhere(plan, c.roles),
+        None => 0,
+    }
+}
+
 // For each constraint, what is granted to roles that it does not name.
 fn outside(plan: &Plan) -> [PermissionSet; 64]
     ensures { Outside plan.now result }
 {
-    let mut all = [0u64; 64];
-    // at the index: a write through a zipped `iter_mut` leaves no fact of the elements
-    for (i, c) in plan.constraints().iter().enumerate() {
-        all[i] = elsewhere(plan, c.roles);
-    }
-    all
+    array::from_fn(|i| apart(plan, i))
 }
 
 impl<'a> Survey<'a> {

@@ -1,12 +1,12 @@
 -- From the fewest users to enforcement, and back. Assumes nothing.
-use Rattle.std.proofs.Common.{◌≡◌, ℕ, ◌<◌, ◌≤◌, List, [], ◌∷◌, length, Option, subst, arith, length-take, MatchOption}
+use Rattle.std.proofs.Common.{◌≡◌, ℕ, ◌<◌, ◌≤◌, List, [], ◌∷◌, length, take, Option, sym, ap, ◌∙◌, subst, arith, MatchOption}
 use Rattle.plan.specs.Authority.{policy_count, policy_at, AllSatisfy}
-use Rattle.plan.specs.Enforcing.{Among, nobody, left_out, chosen, Enforces, Enforced, Breachable}
+use Rattle.plan.specs.Enforcing.{Among, nobody, left_out, chosen, Covered, Enforces, Enforced, Breachable}
 use Rattle.plan.specs.declared.Plan.{Plan}
 use Rattle.plan.specs.declared.Policy.{Policy}
 use Rattle.judge.specs.Search.{Covers, Fewest}
 use Rattle.judge.specs.Judging.{Witnessed}
-use Rattle.judge.specs.declared.users.Users.{Users}
+use Rattle.judge.specs.Empties.{EmptyFrom}
 use Rattle.judge.specs.declared.Witness.{Witness}
 
 module _ (p : Plan) where
@@ -28,19 +28,20 @@ module _ (p : Plan) where
     pub policy_most : ((ws : List ℕ) → Covers p q.permissions ws → q.least ≤ length ws) → (ws : List ℕ) → Covers p (policy_at p i).permissions ws → (policy_at p i).least ≤ length ws
     policy_most h = subst (λ (x : Policy). (ws : List ℕ) → Covers p x.permissions ws → x.least ≤ length ws) is h
 
-    pub witnessed : (us : Users) → i < policy_count p → ((k : ℕ) → k < i → Enforces p k) → Fewest p q.permissions q.least us
-        → Witnessed p (record { policy = i; users = us.count; roles = us.roles })
-    witnessed us low lowest f =
+    pub witnessed : (us roles : List ℕ) (n : ℕ) → n ≡ length us → take (length us) roles ≡ us → EmptyFrom roles (length us) → i < policy_count p → ((k : ℕ) → k < i → Enforces p k)
+        → Fewest p q.permissions q.least us → Witnessed p (record { policy = i; users = n; roles = roles })
+    witnessed us roles n e t rest low lowest f =
+        let same : take n roles ≡ us = ap (λ k. take k roles) e ∙ t in
         let found : Fewest p (policy_at p i).permissions (policy_at p i).least us = subst (λ (x : Policy). Fewest p x.permissions x.least us) is f in
         record {
           policy = low;
           lowest = lowest;
-          count = omega (arith, length-take us.count us.roles, us.seven, us.few);
-          satisfies = found.cover.satisfy;
-          covered = found.cover.whole;
-          few = found.few;
-          fewest = λ all s ws a c. found.least ws (record { satisfy = some_satisfy a s; whole = c });
-          rest = us.empty;
+          count = ap length same ∙ sym e;
+          satisfies = subst (AllSatisfy p) (sym same) found.cover.satisfy;
+          covered = subst (Covered p i) (sym same) found.cover.whole;
+          few = omega (arith, e, found.few);
+          fewest = λ all s ws a c. omega (arith, e, found.least ws (record { satisfy = some_satisfy a s; whole = c }));
+          rest = subst (EmptyFrom roles) (sym e) rest;
         }
 
   pub unbreachable : Enforced p → Breachable p → ⊥

@@ -1,15 +1,19 @@
 -- The steps of the search for several users. Assumes nothing.
-use Rattle.std.proofs.Common.{◌≡◌, ℕ, ◌+◌, ◌-◌, ◌^◌, ◌<◌, ◌≤◌, ◌⊎◌, List, [], ◌∷◌, ◌++◌, length, take, Some, None, Option, sym, ap, subst, inl, inr, arith, MatchOption}
+use Rattle.std.proofs.Common.{◌≡◌, ℕ, ◌+◌, ◌-◌, ◌^◌, ◌<◌, ◌≤◌, ◌⊎◌, List, [], ◌∷◌, ◌++◌, length, Some, None, Option, sym, ap, subst, inl, inr, arith, MatchOption}
 use lib.Bits.{bit_or}
 use Rattle.std.proofs.lemmas.Bool.{cases_lt}
+use Rattle.std.proofs.lemmas.List.{length-append}
 use Rattle.terms.specs.Sets.{In, Within, Difference}
 use Rattle.terms.proofs.Bits.{none_in, nothing_left, in_or_l, in_or_r, in_or, in_one, in_one_only}
 use Rattle.plan.specs.Authority.{held, Satisfies, AllSatisfy, held_by}
 use Rattle.plan.specs.declared.Plan.{Plan}
 use Rattle.holding.specs.Holding.{HeldWith}
-use Rattle.judge.specs.Lists.{listed}
+use Rattle.terms.specs.Lists.{listed}
+use Rattle.terms.specs.declared.short_list.ShortList.{ShortList}
 use Rattle.judge.specs.Search.{Covers, Coverable, Share, Shared, JoinedBy}
-use Rattle.judge.specs.declared.users.Users.{Users}
+
+abbrev Users : Type 0
+Users = ShortList ℕ 7
 
 module _ (p : Plan) where
   pub all_append : (xs ys : List ℕ) → AllSatisfy p xs → AllSatisfy p ys → AllSatisfy p (xs ++ ys)
@@ -71,36 +75,36 @@ module _ (p : Plan) where
       holds = d.own;
     }
 
-    pub shared_with : (us r : Users) (word : ℕ) → opened ≡ 0 → listed r ≡ listed us ++ (word ∷ []) → r.count ≡ us.count + 1
-        → HeldWith p mine word → AllSatisfy p (listed us) → Within left (held_by p (listed us)) → us.count ≤ n → Shared p n opened mine left r
-    shared_with us r word z e m h s l f = record {
-      satisfy = subst (AllSatisfy p) (sym e) (all_append (listed us) (word ∷ []) s (h.satisfies, tt));
-      own = λ k i. subst (λ ws. In k (held_by p ws)) (sym e) (held_last (listed us) (word ∷ []) k (in_or_l (held p word) 0 k (h.holds k i)));
+    shared_with : (us r : List ℕ) (word : ℕ) → opened ≡ 0 → r ≡ us ++ (word ∷ [])
+        → HeldWith p mine word → AllSatisfy p us → Within left (held_by p us) → length us ≤ n → Shared p n opened mine left r
+    shared_with us r word z e h s l f = record {
+      satisfy = subst (AllSatisfy p) (sym e) (all_append us (word ∷ []) s (h.satisfies, tt));
+      own = λ k i. subst (λ ws. In k (held_by p ws)) (sym e) (held_last us (word ∷ []) k (in_or_l (held p word) 0 k (h.holds k i)));
       split = λ k i. none_in k (subst (In k) z i);
-      rest = λ k i. subst (λ ws. In k (held_by p ws)) (sym e) (held_first (listed us) (word ∷ []) k (l k i));
-      few = omega arith;
+      rest = λ k i. subst (λ ws. In k (held_by p ws)) (sym e) (held_first us (word ∷ []) k (l k i));
+      few = omega (arith, ap length e, length-append us (word ∷ []));
     }
 
     -- the first user, alone
-    pub shared_alone : (us r : Users) (word : ℕ) → opened ≡ 0 → left ≡ 0 → us.count ≡ 0 → listed r ≡ listed us ++ (word ∷ []) → r.count ≡ us.count + 1
+    shared_alone : (us r : List ℕ) (word : ℕ) → opened ≡ 0 → left ≡ 0 → us ≡ [] → r ≡ us ++ (word ∷ [])
         → HeldWith p mine word → Shared p n opened mine left r
-    shared_alone us r word z y m e c h = shared_with us r word z e c h
-        (subst (AllSatisfy p) (sym (ap (λ i. take i us.roles) m)) tt)
+    shared_alone us r word z y m e h = shared_with us r word z e h
+        (subst (AllSatisfy p) (sym m) tt)
         (λ k i. none_in k (subst (In k) y i))
-        (omega arith)
+        (omega (arith, ap length m))
 
     -- the first user, with what the search for him answered
-    pub joined_alone : (us : Users) (o : Option Users) → opened ≡ 0 → left ≡ 0 → us.count ≡ 0
-        → MatchOption o ((w : ℕ) → HeldWith p mine w → ⊥) (λ r. JoinedBy p mine us r)
-        → MatchOption o (Share p n opened mine left → ⊥) (λ r. Shared p n opened mine left r)
+    pub joined_alone : (us : List ℕ) (o : Option Users) → opened ≡ 0 → left ≡ 0 → us ≡ []
+        → MatchOption o ((w : ℕ) → HeldWith p mine w → ⊥) (λ r. JoinedBy p mine us (listed r))
+        → MatchOption o (Share p n opened mine left → ⊥) (λ r. Shared p n opened mine left (listed r))
     joined_alone us None z y m h = λ d. h d.user (share_holder d)
-    joined_alone us (Some r) z y m h = shared_alone us r h.word z y m h.list h.count h.holder
+    joined_alone us (Some r) z y m h = shared_alone us (listed r) h.word z y m h.list h.holder
 
-    pub joined_with : (us : Users) (o : Option Users) → opened ≡ 0 → AllSatisfy p (listed us) → Within left (held_by p (listed us)) → us.count ≤ n
-        → MatchOption o ((w : ℕ) → HeldWith p mine w → ⊥) (λ r. JoinedBy p mine us r)
-        → MatchOption o (Share p n opened mine left → ⊥) (λ r. Shared p n opened mine left r)
+    pub joined_with : (us : List ℕ) (o : Option Users) → opened ≡ 0 → AllSatisfy p us → Within left (held_by p us) → length us ≤ n
+        → MatchOption o ((w : ℕ) → HeldWith p mine w → ⊥) (λ r. JoinedBy p mine us (listed r))
+        → MatchOption o (Share p n opened mine left → ⊥) (λ r. Shared p n opened mine left (listed r))
     joined_with us None z s l f h = λ d. h d.user (share_holder d)
-    joined_with us (Some r) z s l f h = shared_with us r h.word z h.list h.count h.holder s l f
+    joined_with us (Some r) z s l f h = shared_with us (listed r) h.word z h.list h.holder s l f
 
     nobody_holds : (k : ℕ) (ws : List ℕ) → length ws ≤ 0 → In k (held_by p ws) → ⊥
     nobody_holds k [] l h = none_in k h
@@ -136,11 +140,11 @@ module _ (p : Plan) where
           }
 
       -- users dealt to cover it all
-      pub shared_all : (us : Users) (m : ℕ) → Shared p m rest b 0 us → Within opened (held_by p (listed us))
+      pub shared_all : (us : List ℕ) (m : ℕ) → Shared p m rest b 0 us → Within opened (held_by p us)
       shared_all us m d j h = elim (o.other j h) [ inl x ↦ d.own j x | inr y ↦ d.split j y ]
 
       module _ (mine left : ℕ) where
-        pub shared_keep : (us : Users) → Shared p n rest (bit_or mine b) left us → Shared p n opened mine left us
+        pub shared_keep : (us : List ℕ) → Shared p n rest (bit_or mine b) left us → Shared p n opened mine left us
         shared_keep us d = record {
           satisfy = d.satisfy;
           few = d.few;
@@ -149,7 +153,7 @@ module _ (p : Plan) where
           split = λ j h. elim (o.other j h) [ inl x ↦ d.own j (in_or_r mine b j x) | inr y ↦ d.split j y ];
         }
 
-        pub shared_leave : (us : Users) → Shared p n rest mine (bit_or left b) us → Shared p n opened mine left us
+        pub shared_leave : (us : List ℕ) → Shared p n rest mine (bit_or left b) us → Shared p n opened mine left us
         shared_leave us d = record {
           satisfy = d.satisfy;
           few = d.few;
@@ -186,10 +190,10 @@ module _ (p : Plan) where
         ]
 
         pub share_last : (r : Option Users) → In k opened → (Share p n rest (bit_or mine b) left → ⊥)
-            → MatchOption r (Share p n rest mine (bit_or left b) → ⊥) (λ us. Shared p n rest mine (bit_or left b) us)
-            → MatchOption r (Share p n opened mine left → ⊥) (λ us. Shared p n opened mine left us)
+            → MatchOption r (Share p n rest mine (bit_or left b) → ⊥) (λ us. Shared p n rest mine (bit_or left b) (listed us))
+            → MatchOption r (Share p n opened mine left → ⊥) (λ us. Shared p n opened mine left (listed us))
         share_last None want no_keep h = share_none want no_keep h
-        share_last (Some us) want no_keep h = shared_leave us h
+        share_last (Some us) want no_keep h = shared_leave (listed us) h
 
         pub share_alone : n ≡ 0 → In k opened → (Share p n rest (bit_or mine b) left → ⊥) → Share p n opened mine left → ⊥
         share_alone z want no_keep = share_none want no_keep (share_nobody n rest mine (bit_or left b) k z (in_or_r left b k one_in))

@@ -1,6 +1,5 @@
 pub mod Empties
 pub mod Invariant
-pub mod Lists
 pub mod Search
 pub mod Memory
 pub mod Judging

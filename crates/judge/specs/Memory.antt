@@ -20,9 +20,12 @@ ShortRight p s n = 0 < s → Coverable p n s → ⊥
 abbrev pub KnownRight : Plan → ℕ → Known → Type 0
 KnownRight p s k = SingleRight p s k.single × ShortRight p s k.short
 
--- every slot is right
-abbrev pub SlotsRight : Plan → List ℕ → List Single → List ℕ → Type 0
-SlotsRight p sets single short = (i : ℕ) → i < length sets → SingleRight p (slice_index sets i) (slice_index_or single i Unknown) × ShortRight p (slice_index sets i) (slice_index short i)
+abbrev pub nothing : Known
+nothing = record { single = Unknown; short = 0 }
+
+-- every slot is right: what it knows of its set
+abbrev pub SlotsRight : Plan → List ℕ → List Known → Type 0
+SlotsRight p sets known = (i : ℕ) → i < length sets → KnownRight p (slice_index sets i) (slice_index_or known i nothing)
 
 abbrev pub MemoRight : Plan → Memo → Type 0
-MemoRight p m = SlotsRight p m.sets.now m.single.now m.short.now
+MemoRight p m = SlotsRight p m.sets.now m.known.now

@@ -4,8 +4,6 @@ use Rattle.terms.specs.Sets.{In, Within}
 use Rattle.plan.specs.Authority.{held, Satisfies, AllSatisfy, held_by}
 use Rattle.plan.specs.declared.Plan.{Plan}
 use Rattle.holding.specs.Holding.{HeldWith}
-use Rattle.judge.specs.Lists.{listed}
-use Rattle.judge.specs.declared.users.Users.{Users}
 
 -- users who satisfy the constraints and together hold all of u
 pub record Covers (p : Plan) (u : ℕ) (ws : List ℕ) : Type 0 where
@@ -19,10 +17,10 @@ pub record Coverable (p : Plan) (n u : ℕ) : Type 0 where
   pub cover : Covers p u users
 
 -- us are the fewest who do, fewer than `below`
-pub record Fewest (p : Plan) (u below : ℕ) (us : Users) : Type 0 where
-  pub cover : Covers p u (listed us)
-  pub few : us.count < below
-  pub least : (ws : List ℕ) → Covers p u ws → us.count ≤ length ws
+pub record Fewest (p : Plan) (u below : ℕ) (us : List ℕ) : Type 0 where
+  pub cover : Covers p u us
+  pub few : length us < below
+  pub least : (ws : List ℕ) → Covers p u ws → length us ≤ length ws
 
 -- ---- several users
 
@@ -38,16 +36,15 @@ pub record Share (p : Plan) (n opened mine left : ℕ) : Type 0 where
   pub rest : Within left (held_by p others)
 
 -- at most n + 1 users who hold it all
-pub record Shared (p : Plan) (n opened mine left : ℕ) (us : Users) : Type 0 where
-  pub satisfy : AllSatisfy p (listed us)
-  pub own : Within mine (held_by p (listed us))
-  pub split : Within opened (held_by p (listed us))
-  pub rest : Within left (held_by p (listed us))
-  pub few : us.count ≤ n + 1
+pub record Shared (p : Plan) (n opened mine left : ℕ) (us : List ℕ) : Type 0 where
+  pub satisfy : AllSatisfy p us
+  pub own : Within mine (held_by p us)
+  pub split : Within opened (held_by p us)
+  pub rest : Within left (held_by p us)
+  pub few : length us ≤ n + 1
 
 -- one more user, with roles that hold `mine`
-pub record JoinedBy (p : Plan) (mine : ℕ) (us r : Users) : Type 0 where
+pub record JoinedBy (p : Plan) (mine : ℕ) (us r : List ℕ) : Type 0 where
   pub word : ℕ
   pub holder : HeldWith p mine word
-  pub list : listed r ≡ listed us ++ (word ∷ [])
-  pub count : r.count ≡ us.count + 1
+  pub list : r ≡ us ++ (word ∷ [])

@@ -11,7 +11,6 @@ pub mod judging;
 mod memo;
 mod sharing;
 mod starting;
-mod users;
 
 // A plan whose constraints enforce all its policies, for assignments to any number of users. It is neither `Clone` nor
 // `Copy`: an engine that opens from it uses it up.

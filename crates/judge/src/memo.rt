@@ -20,14 +20,29 @@ pub struct Known {
     pub short: u8,
 }
 
-// What the search has found out, by sets of permissions. A slot has its whole set, so a wrong place is only slower:
-// whether one user can hold that set, and a number of users who cannot hold it together. The tables are three because
-// judging has a stack of less than 1 MiB: 65536 records of a set and two bytes would take all of it, the tables take 640 KiB.
+impl Known {
+    // Nothing.
+    pub(crate) const NONE: Known = Known {
+        single: Single::Unknown,
+        short: 0,
+    };
+}
+
+// What the search has found out, by sets of permissions, which are looked up by their members in `all`. A slot has its whole
+// set, so a wrong place is only slower. The sets are apart from what is known of them because judging has a stack of less than
+// 1 MiB: a record of a set and two bytes is padded to 16 bytes, and 65536 of those would take all of it.
 #[derive(Drop)]
 pub struct Memo<'a> {
     sets: &'a mut [PermissionSet],
-    single: &'a mut [Single],
-    short: &'a mut [u8],
-    ghost level: { length single.now ≡ length sets.now },
-    ghost even: { length short.now ≡ length sets.now },
+    known: &'a mut [Known],
+    all: PermissionSet,
+    ghost level: { length known.now ≡ length sets.now },
+}
+
+// A set of permissions, and where the tables have it. It is found once for looking a set up and noting what was learned since:
+// judging the hardest plans takes 2 in 100 longer where each call finds it.
+#[derive(Clone, Copy)]
+pub struct Slot {
+    at: usize,
+    held: PermissionSet,
 }

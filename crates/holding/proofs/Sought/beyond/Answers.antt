@@ -1,4 +1,4 @@
-use Rattle.std.proofs.Common.{◌≡◌, ◌-◌, ◌<◌, length, sym, ap, ◌∙◌, subst, inl, inr, arith}
+use Rattle.std.proofs.Common.{◌≡◌, ◌-◌, ◌<◌, length, refl, sym, ap, ◌∙◌, subst, inl, inr, arith}
 use lib.Bits.{bit_and}
 use lib.Count.{ones}
 use Rattle.std.proofs.lemmas.Bool.{cases_eq}
@@ -22,8 +22,8 @@ returns-then-here-slack c _ w h =
     let is : d ≡ constraint_at p i = t.2 (record { roles = 0; limit = 0 }) ∙ ap (λ xs. constraint_in xs i) c.constraints.ensures in
     let roles = (constraint_at p i).roles in
     let e : slack ≡ d.limit - 1 - ones (bit_and (authorised p u.word) d.roles) = omega (arith, c.slack.ensures, ap (λ x. ones (bit_and x d.roles)) u.whole) in
-    let few = fresh_bound p u.word u.wanted w h roles slack c.difference-open.result c.in-Some.apart.now c.difference-here.result c.most-each.result
-    c.difference-open.ensures c.held.ensures.value c.difference-here.ensures
+    let few = fresh_bound p u.word u.wanted w h roles slack c.open-open.result c.in-Some.apart.now c.difference-here.result c.most-each.result
+    c.open-open.ensures refl c.difference-here.ensures
     (λ a k g. elim (cases_eq (bit roles a) 1) [ inl x ↦ inl x | inr n ↦ inr (subst (In k) (sym (t.3 0)) (u.survey.now.apart (i, a, k) (low, g, n))) ])
     c.most-each.ensures
     (omega (arith, room p u.word u.wanted i d low is slack e, fresh_limit p u.word u.wanted w h i low)) in

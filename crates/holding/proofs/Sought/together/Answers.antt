@@ -1,4 +1,4 @@
-use Rattle.std.proofs.Common.{arith, ltb-true}
+use Rattle.std.proofs.Common.{refl, arith, ltb-true}
 use Rattle.plan.specs.Authority.{authorised}
 use Rattle.holding.proofs.Bounds.{fresh_none, fresh_bound}
 use Rattle.holding.proofs.Sought.together.Goals as goal
@@ -11,6 +11,6 @@ returns c e w h =
     let u = c.args.self.now in
     let p = u.survey.now.plan.now in
     let named = c.loop-times.named in
-    let few = fresh_bound p u.word u.wanted w h named.roles named.spare c.difference-open.result c.elsewhere.result c.difference-here.result c.most-each.result
-    c.difference-open.ensures c.held.ensures.value c.difference-here.ensures c.elsewhere.ensures c.most-each.ensures (c.loop-times.invariant.1 w h) in
+    let few = fresh_bound p u.word u.wanted w h named.roles named.spare c.open-open.result c.elsewhere.result c.difference-here.result c.most-each.result
+    c.open-open.ensures refl c.difference-here.ensures c.elsewhere.ensures c.most-each.ensures (c.loop-times.invariant.1 w h) in
     omega (arith, few, ltb-true _ _ e)

@@ -1,8 +1,7 @@
 use Rattle.judge.proofs.Memories.{slots_set}
 use Rattle.judge.proofs.memo.Memo.note.Goals as goal
 
-pub returns-then-i-self : goal.returns-then-i-self
-returns-then-i-self c p m h =
+pub returns-then-slot-self : goal.returns-then-slot-self
+returns-then-slot-self c p m h =
     let memo = c.args.self.now in
-    slots_set p memo.sets.now memo.single.now memo.short.now c.args.i c.args.held c.args.known.single c.args.known.short
-    c.if-i-self.true memo.level memo.even m h.0 h.1
+    slots_set p memo.sets.now memo.known.now c.args.slot.at c.args.slot.held c.args.known c.if-slot-self.true memo.level m h

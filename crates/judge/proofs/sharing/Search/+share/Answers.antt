@@ -1,5 +1,6 @@
 use Rattle.std.proofs.Common.{◌≡◌, ◌+◌, ◌-◌, ◌*◌, ◌^◌, ◌<◌, ap, ◌∙◌, le_refl, arith}
 use Rattle.std.proofs.lemmas.Nat.{one_shl}
+use Rattle.terms.specs.Lists.{listed}
 use Rattle.terms.proofs.Bits.{in_pos}
 use Rattle.judge.specs.declared.sharing.Search.{Search}
 use Rattle.judge.proofs.Shares.{share_holder, share_coverable, joined_alone, joined_with, one_in, cover_share, shared_all, shared_keep, share_last, share_alone}
@@ -11,18 +12,18 @@ returns-then-not-holdable-clause-answer t c d = c.holdable.ensures.no c.if-not-h
 
 pub returns-in_default-lowest-clause-answer : goal.returns-in_default-lowest-clause-answer
 returns-in_default-lowest-clause-answer t c =
-    joined_alone c.args.self.now.survey.now.plan.now c.args.n c.args.open c.args.mine c.args.left c.none.result c.joined.result c.in_default.ensures c.in_default-lowest.ensures c.none.ensures (rw c.holdable.ensures.same at c.joined.ensures)
+    joined_alone c.args.self.now.survey.now.plan.now c.args.n c.args.open c.args.mine c.args.left (listed c.new.result) c.joined.result c.in_default.ensures c.in_default-lowest.ensures c.new.ensures (rw c.holdable.ensures.same at c.joined.ensures)
 
 pub returns-then-n-known-clause-answer : goal.returns-then-n-known-clause-answer
 returns-then-n-known-clause-answer t c d =
-    (c.known.ensures c.args.self.now.survey.now.plan.now (rw c.holdable.ensures.same at c.holdable.new.self.right)).1 (in_pos c.args.left c.in-Some-lowest.low c.in-Some-lowest.ensures.member)
+    (rw c.slot-slot.ensures at (c.known.ensures c.args.self.now.survey.now.plan.now (rw c.holdable.ensures.same at c.holdable.new.self.right)).1) (in_pos c.args.left c.in-Some-lowest.low c.in-Some-lowest.ensures.member)
     (share_coverable c.args.self.now.survey.now.plan.now c.args.n c.args.open c.args.mine c.args.left c.known.result.short c.if-n-known.true d)
 
 pub invariant_of-self : goal.invariant_of-self
 invariant_of-self t c = record {
   right = c.note.ensures _ c.share.new.self.right (
     (c.known-known.ensures _ c.share.new.self.right).0,
-    rw c.share.ensures.same (λ _ v. c.in_default-share.ensures.answer
+    rw (c.slot-slot.ensures, c.share.ensures.same) (λ _ v. c.in_default-share.ensures.answer
         (cover_share c.holdable.new.self.survey.now.plan.now c.in-Some-lowest.low _ (one_shl c.in-Some-lowest.low 64 c.in-Some-lowest.ensures.low) c.args.n c.args.left c.difference.result c.difference.ensures c.in-Some-lowest.ensures.member v)),
   );
 }
@@ -36,8 +37,8 @@ returns-in_default-share-clause-answer t c d =
 pub returns-in_default-clause-answer : goal.returns-in_default-clause-answer
 returns-in_default-clause-answer t c =
     let d = rw c.holdable.ensures.same at c.in-Some-share.ensures.answer in
-    joined_with c.args.self.now.survey.now.plan.now c.args.n c.args.open c.args.mine c.args.left c.in-Some-share.others c.joined-in_default.result c.in_default.ensures d.satisfy
-    (shared_all c.args.self.now.survey.now.plan.now c.in-Some-lowest.low _ (one_shl c.in-Some-lowest.low 64 c.in-Some-lowest.ensures.low) c.args.n c.args.left c.difference.result c.difference.ensures c.in-Some-share.others (c.args.n - 1) d)
+    joined_with c.args.self.now.survey.now.plan.now c.args.n c.args.open c.args.mine c.args.left (listed c.in-Some-share.others) c.joined-in_default.result c.in_default.ensures d.satisfy
+    (shared_all c.args.self.now.survey.now.plan.now c.in-Some-lowest.low _ (one_shl c.in-Some-lowest.low 64 c.in-Some-lowest.ensures.low) c.args.n c.args.left c.difference.result c.difference.ensures (listed c.in-Some-share.others) (c.args.n - 1) d)
     (omega (arith, d.few, c.if-n-known.false))
     (rw (c.share.ensures.same, c.holdable.ensures.same) at c.joined-in_default.ensures)
 
@@ -49,7 +50,7 @@ share-requires-then-holdable t c =
 
 pub returns-in-Some-share-2-clause-answer : goal.returns-in-Some-share-2-clause-answer
 returns-in-Some-share-2-clause-answer t c =
-    shared_keep c.args.self.now.survey.now.plan.now c.in-Some.k _ (one_shl c.in-Some.k 64 c.in-Some.ensures.low) c.args.n c.args.open c.difference-rest.result c.difference-rest.ensures c.args.mine c.args.left c.in-Some-share-2.us (rw c.holdable-2.ensures.same at c.in-Some-share-2.ensures.answer)
+    shared_keep c.args.self.now.survey.now.plan.now c.in-Some.k _ (one_shl c.in-Some.k 64 c.in-Some.ensures.low) c.args.n c.args.open c.difference-rest.result c.difference-rest.ensures c.args.mine c.args.left (listed c.in-Some-share-2.us) (rw c.holdable-2.ensures.same at c.in-Some-share-2.ensures.answer)
 
 pub returns-then-n-eq0-clause-answer : goal.returns-then-n-eq0-clause-answer
 returns-then-n-eq0-clause-answer t c =

@@ -1,5 +1,6 @@
 use Rattle.std.proofs.Common.{◌≡◌, ap, ◌∙◌, below_more, length, arith}
 use Rattle.holding.specs.declared.Survey.{Survey}
+use Rattle.terms.specs.Lists.{listed}
 use Rattle.plan.specs.Authority.{policies_of}
 use Rattle.plan.specs.Limits.{policy_in}
 use Rattle.plan.specs.Enforcing.{Enforces}
@@ -12,7 +13,7 @@ returns-in-Some c =
     let i = c.loop-i.i in
     let items = c.policies-policy-items.result.now in
     let same : items ≡ policies_of p = c.policies-policy-items.ensures ∙ ap policies_of (c.plan-plan.ensures ∙ ap (λ (s : Survey). s.plan.now) c.survey.ensures) in
-    witnessed p i _ (ap (λ xs. policy_in xs i) same) c.in-Some.found (omega (arith, c.loop-i-test.true, ap length same)) c.loop-i.invariant.lower (rw c.loop-i.invariant.same at c.in-Some.ensures.answer)
+    witnessed p i _ (ap (λ xs. policy_in xs i) same) (listed c.in-Some.found) c.roles_of-roles.result c.len.result c.len.ensures c.roles_of-roles.ensures.users c.roles_of-roles.ensures.rest (omega (arith, c.loop-i-test.true, ap length same)) c.loop-i.invariant.lower (rw c.loop-i.invariant.same at c.in-Some.ensures.answer)
 
 pub loop-i-preserved : goal.loop-i-preserved
 loop-i-preserved c =
