@@ -1,7 +1,8 @@
 -- Setting and taking away flags, and reading a row flag after flag. Assumes nothing.
 use Rattle.std.proofs.Common.{◌≡◌, ℕ, ◌+◌, ◌*◌, ◌/◌, ◌%◌, ◌^◌, ◌<◌, ◌≤◌, min, Bool, Bor, Option, Some, fold, true, false, cond, ltb, ◌⊎◌, List, [], ◌∷◌, ◌++◌, zero, suc, map, length, get_or, take, drop, set, replicate, count_by, refl, sym, ap, ◌∙◌, subst, inl, inr, arith, drop-set-lt, length-append, length-drop}
 use Rattle.std.specs.List.{slice_get}
-use Rattle.std.specs.Iterator.Runs.{Run, YieldsRun, IsChunksExactRun}
+use Rattle.std.specs.Iterator.Runs.{Run, YieldsRun, ProjectsRun, ItemsMapTo, IsChunksExactRun}
+use Rattle.std.specs.Option.{IfSome, option_map}
 use Rattle.std.proofs.lemmas.Option.{MatchOption-at_some, slice_get_within}
 use lib.Bits.{bit_or, bit_xor, or_lt, xor_lt}
 use lib.Count.{ones, ones_step}
@@ -166,6 +167,49 @@ read_off bs row i h o = record {
 
 pub read_all : (bs : List Bool) (row : ℕ) → Read bs row (length bs) → row ≡ word bs
 read_all bs row o = same_digits row (word bs) (λ k. sym (bit_word bs k ∙ elim (cases_lt k (length bs)) [ inl l ↦ sym (o.done k l) | inr g ↦ ap digit (get_or_past bs k false g) ∙ sym (o.rest k g) ]))
+
+-- the word with the role of a flag that is set
+abbrev pub with_role : ℕ → ℕ × Bor Bool → ℕ
+with_role row x = cond (ltb x.0 64) (bit_or row (2 ^ x.0)) row
+
+-- and of a flag, set or not
+abbrev pub with_flag : ℕ → ℕ × Bor Bool → ℕ
+with_flag row x = cond x.1.now (with_role row x) row
+
+read_flag : (b : Bool) (bs : List Bool) (row i n : ℕ) → i < 64 → n ≡ i → get_or bs i false ≡ b → Read bs row i → Read bs (cond b (cond (ltb n 64) (bit_or row (2 ^ n)) row) row) (i + 1)
+read_flag true bs row i n l e h o = read_set bs row _ i l (λ j. cond (ltb (e j) 64) (bit_or row (2 ^ e j)) row) h o
+read_flag false bs row i n l e h o = read_off bs row i h o
+
+read_from : (bs : List Bool) (i row : ℕ) (items : List (ℕ × Bor Bool)) → length bs ≤ 64 → i + length items ≡ length bs
+    → ((k : ℕ) (x : ℕ × Bor Bool) → slice_get items k ≡ Some x → (x.0 ≡ i + k) × (get_or bs (i + k) false ≡ x.1.now))
+    → Read bs row i → Read bs (fold with_flag row items) (length bs)
+read_from bs i row [] few n h o = let e : i ≡ length bs = omega (arith, n) in subst (Read bs row) e o
+read_from bs i row (x ∷ items) few n h o =
+    let here = h 0 x refl in
+    let place : i ≡ i + 0 = omega arith in
+    let small : i < 64 = omega (arith, n) in
+    let role : x.0 ≡ i = omega (arith, here.0) in
+    read_from bs (i + 1) (with_flag row x) items few (omega (arith, n))
+    (λ k y e. let next : i + 1 + k ≡ i + suc k = omega arith in let there = h (suc k) y e in (there.0 ∙ sym next, ap (λ j. get_or bs j false) next ∙ there.1))
+    (read_flag x.1.now bs row i x.0 small role (ap (λ j. get_or bs j false) place ∙ here.1) o)
+
+-- flags with their numbers, read one after another
+pub read_word : {S T : Type 0} {steps : S → Option (ℕ × Bor Bool) → S → Type 0} {source : T → Option (Bor Bool) → T → Type 0} (q : Run steps) (z : Run source) (bs xs : List Bool)
+    → xs ≡ bs → length bs ≤ 64 → z.whole ≡ true → ((k : ℕ) → IfSome (q.at k) (λ x. x.0 ≡ k)) → ProjectsRun q z (λ x. x.1) → ItemsMapTo z (λ y. y.now) xs
+    → fold with_flag 0 q.items ≡ word bs
+unfolding YieldsRun
+read_word q z bs xs same few whole numbered shown items =
+    let many : length q.items ≡ length bs = sym q.long ∙ sym shown.0 ∙ items.1 whole ∙ ap (λ (x : List Bool). length x) same in
+    read_all bs _ (read_from bs 0 0 q.items few (omega (arith, many))
+    (λ k x is.
+    let at : q.at k ≡ Some x = q.gave.1 k ∙ is in
+    let flag : z.at k ≡ Some x.1 = shown.2 k ∙ ap (option_map (λ y. y.1)) at in
+    let in_range : k < z.len = omega (arith, shown.0, q.long, slice_get_within q.items k x is) in
+    let read : Some x.1.now ≡ Some (get_or xs k false) = sym (ap (option_map (λ y. y.now)) flag) ∙ items.2 k false in_range in
+    let held : get_or xs k false ≡ x.1.now = cc in
+    let place : 0 + k ≡ k = omega arith in
+    (MatchOption-at_some _ _ x at (numbered k) ∙ sym place, ap (λ j. get_or bs j false) place ∙ ap (λ y. get_or y k false) (sym same) ∙ held))
+    (record { done = λ k h. absurd (omega arith); rest = λ k h. bit_zero k }))
 
 -- ---- counting the flags that are set
 word_ones : (bs : List Bool) → ones (word bs) ≡ count_by (λ b. b) bs

@@ -152,13 +152,11 @@ fn word_of(flags: &[bool]) -> u64
     requires { length flags.now ≤ 64 }
     ensures { result ≡ word flags.now }
 {
-    let mut row = 0;
-    for (role, held) in flags.iter().enumerate() {
-        if *held {
-            row = with_member(row, role as u32);
-        }
-    }
-    row
+    flags
+        .iter()
+        .enumerate()
+        .filter(|(_, held)| **held)
+        .fold(0, |row, (role, _)| with_member(row, role as u32))
 }
 
 // Takes the first so many flags away. In the body of `clear` the proof would lack all but the length of the flags after the `fill`:
