@@ -1,12 +1,14 @@
 -- The rows of a table of words: how many, and what a write does to them. Assumes nothing.
-use Rattle.std.proofs.Common.{◌≡◌, ℕ, ◌*◌, ◌%◌, ◌^◌, ◌<◌, min, cond, ltb, List, ◌++◌, length, get_or, take, drop, set, replicate, sym, ap, ◌∙◌, inl, inr, arith, drop-set-lt, length-append, length-drop}
+use Rattle.std.proofs.Common.{◌≡◌, ℕ, ◌*◌, ◌%◌, ◌^◌, ◌<◌, min, Bool, true, false, cond, ltb, List, ◌++◌, length, get_or, take, drop, set, replicate, sym, ap, ◌∙◌, inl, inr, arith, drop-set-lt, length-append, length-drop}
 use lib.Bits.{bit_or, bit_xor}
 use lib.Seq.{take-set-lt}
 use Rattle.std.proofs.lemmas.Nat.{pow_pos, one_shl}
 use Rattle.std.proofs.lemmas.List.{get_or_past, length-take, length-set, length-replicate, take-append-le, take_all}
 use Rattle.std.proofs.lemmas.Slice.{drop-append-drop}
 use Rattle.std.proofs.lemmas.Bool.{cases_lt, cond-true, lt-ltb}
-use Rattle.register.specs.Pairs.{row, with_pair, less_pair}
+use Rattle.terms.specs.Sets.{In}
+use Rattle.register.specs.Pairs.{row, Has, with_pair, less_pair}
+use Rattle.register.proofs.Cases.{read_held, read_free}
 use Rattle.register.specs.Model.{with_rows}
 use Rattle.bit_rows.specs.Table.{rows_of, model_of, Inside}
 
@@ -45,6 +47,13 @@ module _ (ws zeros : List ℕ) (n : ℕ) (e : n ≡ min (length ws) 4096) (z : z
 -- as many other rows are the register with other rows
 pub model_with : (ws vs t : List ℕ) → rows_of vs ≡ t → length t ≡ length (rows_of ws) → model_of vs ≡ with_rows (model_of ws) t
 model_with ws vs t e n = λ i. record { rows = e i; places = (ap (λ x. 64 * length x) e ∙ ap (λ k. 64 * k) n) i; seats = λ _. 4096 }
+
+-- ---- what the word read says of the pair
+pub reads_held : {ws : List ℕ} {u r w : ℕ} {b : Bool} → Inside ws u r w → (b ≡ true → In r w) → b ≡ true → Has (rows_of ws) u r
+reads_held {ws = ws} {u = u} i told on = read_held (rows_of ws) u _ _ _ i.same told on
+
+pub reads_free : {ws : List ℕ} {u r w : ℕ} {b : Bool} → Inside ws u r w → (In r w → b ≡ true) → b ≡ false → Has (rows_of ws) u r → ⊥
+reads_free {ws = ws} {u = u} i told off = read_free (rows_of ws) u _ _ _ i.same told off
 
 -- ---- a word is written, where there is a pair of the user and the role
 module _ (ws : List ℕ) (u r w : ℕ) (i : Inside ws u r w) where

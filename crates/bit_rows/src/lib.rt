@@ -89,7 +89,8 @@ impl<'a> Register for BitRows<'a> {
         self.rows().row(user)
     }
 
-    // Each register tests for itself: an impl of `Register` that calls a function generic in it is a cycle to the check.
+    // The check takes an impl of `Register` that calls a function generic in `Register` for a cycle, so each register makes these
+    // tests itself; a function of the eight numbers that they ask for would be no plainer than they are.
     fn add(&mut self, user: u32, role: u32) -> Result<(), RegisterFault> {
         let Some(row) = self.row_for(user, role) else {
             return Err(RegisterFault::NoSuchPair);

@@ -1,5 +1,5 @@
 -- What changes leave of a user's roles. Assumes nothing.
-use Rattle.std.proofs.Common.{◌≡◌, ℕ, ◌^◌, ◌<◌, Bool, true, false, cond, ◌&&◌, eqb, ltb, ◌⊎◌, List, [], ◌∷◌, length, set, sym, refl, ap, ◌∙◌, subst, inl, inr, arith, length-set}
+use Rattle.std.proofs.Common.{◌≡◌, ℕ, ◌^◌, ◌<◌, Bool, true, false, cond, ◌&&◌, eqb, ltb, ◌⊎◌, List, [], ◌∷◌, length, set, fold, sym, refl, ap, ◌∙◌, subst, inl, inr, arith, length-set}
 use lib.Bits.{bit_or, bit_xor}
 use Rattle.std.proofs.lemmas.Bool.{cases_eq, eqb-true, eqb-false, eq-eqb, ne_eqb, ltb-false, lt-ltb, and_parts, and_from, both_ways}
 use Rattle.terms.specs.Sets.{bit, In}
@@ -93,6 +93,11 @@ module _ (u k : ℕ) (low : k < 64) where
   after_out (Withdrawal v r ∷ cs) w (inl (inl e)) = cc
   after_out (Withdrawal v r ∷ cs) w (inl (inr s)) = after_out cs (changed_row u (Withdrawal v r) w) (inl s)
   after_out (Withdrawal v r ∷ cs) w (inr x) = after_out cs (changed_row u (Withdrawal v r) w) (inr (withdraw_out v r w x.0 x.1.0, x.1.1))
+
+-- one change after another
+pub folded : (u : ℕ) (cs : List Change) (w : ℕ) → fold (λ after c. changed_row u c after) w cs ≡ row_after u cs w
+folded u [] w = refl
+folded u (c ∷ cs) w = folded u cs (changed_row u c w)
 
 -- ---- the end table, row by row
 

@@ -30,9 +30,7 @@ pub fn row_after(changes: &[Change], user: u32, roles: RoleSet) -> RoleSet
     ensures exactly { (k : ℕ) → k < 64 → In k result ↔ (Stands user k changes.now ⊎ (In k roles × Unwithdrawn user k changes.now)) }
     ensures ended { (t : List ℕ) → user < length t → row t user ≡ roles → row (ended t changes.now) user ≡ result }
 {
-    let mut after = roles;
-    for change in changes {
-        after = change.made_of(user, after);
-    }
-    after
+    changes
+        .iter()
+        .fold(roles, |after, change| change.made_of(user, after))
 }

@@ -1,22 +1,26 @@
 -- Setting and taking away flags, and reading a row flag after flag. Assumes nothing.
-use Rattle.std.proofs.Common.{◌≡◌, ℕ, ◌+◌, ◌*◌, ◌/◌, ◌%◌, ◌^◌, ◌<◌, ◌≤◌, min, Bool, true, false, cond, ltb, ◌⊎◌, List, [], ◌∷◌, ◌++◌, zero, suc, map, length, get_or, take, drop, set, replicate, count_by, refl, sym, ap, ◌∙◌, subst, inl, inr, arith, drop-set-lt, length-append, length-drop}
+use Rattle.std.proofs.Common.{◌≡◌, ℕ, ◌+◌, ◌*◌, ◌/◌, ◌%◌, ◌^◌, ◌<◌, ◌≤◌, min, Bool, Bor, Option, Some, fold, true, false, cond, ltb, ◌⊎◌, List, [], ◌∷◌, ◌++◌, zero, suc, map, length, get_or, take, drop, set, replicate, count_by, refl, sym, ap, ◌∙◌, subst, inl, inr, arith, drop-set-lt, length-append, length-drop}
+use Rattle.std.specs.List.{slice_get}
+use Rattle.std.specs.Iterator.Runs.{Run, YieldsRun, ProjectsRun, ItemsMapTo, IsChunksExactRun}
+use Rattle.std.specs.Option.{IfSome, option_map}
+use Rattle.std.proofs.lemmas.Option.{MatchOption-at_some, slice_get_within}
 use lib.Bits.{bit_or, bit_xor, or_lt, xor_lt}
 use lib.Count.{ones, ones_step}
-use Rattle.std.proofs.Math.Seq.{take-add, take-append_seam, drop-append_seam}
+use Rattle.std.proofs.Math.Seq.{take-add}
 use Rattle.std.proofs.lemmas.List.Sums.{sum_by-cons, sum_by-append}
 use Rattle.terms.proofs.Sizes.{ones_none}
 use Rattle.std.proofs.lemmas.Nat.{pow_pos, pow_below}
-use Rattle.std.proofs.lemmas.List.{get_or_past, get_or-set_same, get_or-set_other, get_or_append_left, get_or-replicate, get_or-take, length-take, length-set, length-replicate}
+use Rattle.std.proofs.lemmas.List.{get_or_past, get_or-set_same, get_or-set_other, get_or_append_left, get_or-replicate, get_or-take, get_or-drop, length-take, length-set, length-replicate}
 use Rattle.std.proofs.lemmas.Slice.{drop-append-drop}
 use Rattle.std.proofs.lemmas.Bool.{cases_eq, cases_lt, cond-true, lt-ltb}
 use Rattle.terms.specs.Sets.{bit}
-use Rattle.terms.proofs.Bits.{bit_zero, bit_two, same_digits, with_new, with_other}
+use Rattle.terms.proofs.Bits.{bit_zero, same_digits, with_new, with_other}
 use Rattle.register.specs.Pairs.{row, Has, pairs, having, members, with_pair, less_pair, emptied}
 use Rattle.register.proofs.Cases.{members_low, members_high}
 use Rattle.register.specs.Model.{users_of, with_rows}
-use Rattle.register.proofs.Tables.{each_row, same_rows, none_row, pairs_most}
+use Rattle.register.proofs.Tables.{each_row, same_rows, none_row, none_members, pairs_most}
 use Rattle.register.proofs.Tables as t
-use Rattle.flag_table.specs.Flags.{word, rows_from, users_in, rows_of, model_of, spare_of, Inside, Outside}
+use Rattle.flag_table.specs.Flags.{word, rows_from, users_in, rows_of, in_use, model_of, spare_of, Inside, Outside}
 use Rattle.flag_table.specs.Sound.{digit, digit_two, length_from, from_wide}
 use Rattle.flag_table.proofs.Words.{bit_word, bit_flag}
 
@@ -164,6 +168,49 @@ read_off bs row i h o = record {
 pub read_all : (bs : List Bool) (row : ℕ) → Read bs row (length bs) → row ≡ word bs
 read_all bs row o = same_digits row (word bs) (λ k. sym (bit_word bs k ∙ elim (cases_lt k (length bs)) [ inl l ↦ sym (o.done k l) | inr g ↦ ap digit (get_or_past bs k false g) ∙ sym (o.rest k g) ]))
 
+-- the word with the role of a flag that is set
+abbrev pub with_role : ℕ → ℕ × Bor Bool → ℕ
+with_role row x = cond (ltb x.0 64) (bit_or row (2 ^ x.0)) row
+
+-- and of a flag, set or not
+abbrev pub with_flag : ℕ → ℕ × Bor Bool → ℕ
+with_flag row x = cond x.1.now (with_role row x) row
+
+read_flag : (b : Bool) (bs : List Bool) (row i n : ℕ) → i < 64 → n ≡ i → get_or bs i false ≡ b → Read bs row i → Read bs (cond b (cond (ltb n 64) (bit_or row (2 ^ n)) row) row) (i + 1)
+read_flag true bs row i n l e h o = read_set bs row _ i l (λ j. cond (ltb (e j) 64) (bit_or row (2 ^ e j)) row) h o
+read_flag false bs row i n l e h o = read_off bs row i h o
+
+read_from : (bs : List Bool) (i row : ℕ) (items : List (ℕ × Bor Bool)) → length bs ≤ 64 → i + length items ≡ length bs
+    → ((k : ℕ) (x : ℕ × Bor Bool) → slice_get items k ≡ Some x → (x.0 ≡ i + k) × (get_or bs (i + k) false ≡ x.1.now))
+    → Read bs row i → Read bs (fold with_flag row items) (length bs)
+read_from bs i row [] few n h o = let e : i ≡ length bs = omega (arith, n) in subst (Read bs row) e o
+read_from bs i row (x ∷ items) few n h o =
+    let here = h 0 x refl in
+    let place : i ≡ i + 0 = omega arith in
+    let small : i < 64 = omega (arith, n) in
+    let role : x.0 ≡ i = omega (arith, here.0) in
+    read_from bs (i + 1) (with_flag row x) items few (omega (arith, n))
+    (λ k y e. let next : i + 1 + k ≡ i + suc k = omega arith in let there = h (suc k) y e in (there.0 ∙ sym next, ap (λ j. get_or bs j false) next ∙ there.1))
+    (read_flag x.1.now bs row i x.0 small role (ap (λ j. get_or bs j false) place ∙ here.1) o)
+
+-- flags with their numbers, read one after another
+pub read_word : {S T : Type 0} {steps : S → Option (ℕ × Bor Bool) → S → Type 0} {source : T → Option (Bor Bool) → T → Type 0} (q : Run steps) (z : Run source) (bs xs : List Bool)
+    → xs ≡ bs → length bs ≤ 64 → z.whole ≡ true → ((k : ℕ) → IfSome (q.at k) (λ x. x.0 ≡ k)) → ProjectsRun q z (λ x. x.1) → ItemsMapTo z (λ y. y.now) xs
+    → fold with_flag 0 q.items ≡ word bs
+unfolding YieldsRun
+read_word q z bs xs same few whole numbered shown items =
+    let many : length q.items ≡ length bs = sym q.long ∙ sym shown.0 ∙ items.1 whole ∙ ap (λ (x : List Bool). length x) same in
+    read_all bs _ (read_from bs 0 0 q.items few (omega (arith, many))
+    (λ k x is.
+    let at : q.at k ≡ Some x = q.gave.1 k ∙ is in
+    let flag : z.at k ≡ Some x.1 = shown.2 k ∙ ap (option_map (λ y. y.1)) at in
+    let in_range : k < z.len = omega (arith, shown.0, q.long, slice_get_within q.items k x is) in
+    let read : Some x.1.now ≡ Some (get_or xs k false) = sym (ap (option_map (λ y. y.now)) flag) ∙ items.2 k false in_range in
+    let held : get_or xs k false ≡ x.1.now = cc in
+    let place : 0 + k ≡ k = omega arith in
+    (MatchOption-at_some _ _ x at (numbered k) ∙ sym place, ap (λ j. get_or bs j false) place ∙ ap (λ y. get_or y k false) (sym same) ∙ held))
+    (record { done = λ k h. absurd (omega arith); rest = λ k h. bit_zero k }))
+
 -- ---- counting the flags that are set
 word_ones : (bs : List Bool) → ones (word bs) ≡ count_by (λ b. b) bs
 unfolding word
@@ -184,51 +231,43 @@ flag_pairs (suc n) fs =
     ∙ sum_by-append digit (take 64 fs) (take (64 * n) (drop 64 fs))
     ∙ omega (arith, flag_pairs n (drop 64 fs), word_ones (take 64 fs), sum_by-cons ones (word (take 64 fs)) (rows_from n (drop 64 fs)))
 
--- ---- one user more of a role's members
-pub user_members : (bs : List Bool) (t : List ℕ) (r : ℕ) → length bs ≡ 64 → members (word bs ∷ t) r ≡ digit (get_or bs r false) + members t r
-user_members bs t r long = elim (cases_lt r 64) [
-  | inl l ↦ omega (arith, members_low (word bs ∷ t) r l, members_low t r l, sum_by-cons (λ w. bit w r) (word bs) t, bit_word bs r)
-  | inr g ↦ omega (arith, members_high (word bs ∷ t) r g, members_high t r g, ap digit (get_or_past bs r false (omega arith)))
-]
+-- ---- counting a role's members, user after user
+counted : (r a : ℕ) (items : List (Bor (List Bool))) (t : List ℕ) → length items ≡ length t
+    → ((k : ℕ) (x : Bor (List Bool)) → slice_get items k ≡ Some x → digit (get_or x.now r false) ≡ bit (row t k) r)
+    → fold (λ n x. n + digit (get_or x.now r false)) a items ≡ a + having r t
+counted r a [] [] e h = omega arith
+counted r a [] (w ∷ t) e h = absurd (omega (arith, e))
+counted r a (x ∷ items) [] e h = absurd (omega (arith, e))
+counted r a (x ∷ items) (w ∷ t) e h = omega (arith, counted r (a + digit (get_or x.now r false)) items t (omega (arith, e)) (λ k. h (suc k)), h 0 x refl, sum_by-cons (λ v. bit v r) w t)
 
--- the members among the users whose flags are left
-abbrev pub left : List Bool → ℕ → ℕ
-left rest r = members (rows_from (length rest / 64) rest) r
+-- the flag for a role among those of user k
+flag_of : (fs bs : List Bool) (r k : ℕ) → bs ≡ take 64 (drop (k * 64) (in_use fs)) → k < users_in fs → r < 64 → digit (get_or bs r false) ≡ bit (row (rows_of fs) k) r
+flag_of fs bs r k e h l =
+    let n = users_in fs in
+    let place : k * 64 + r ≡ 64 * k + r = omega arith in
+    ap (λ x. digit (get_or x r false)) e
+    ∙ ap digit (get_or-take 64 (drop (k * 64) (in_use fs)) r false l ∙ get_or-drop (k * 64) (in_use fs) r false ∙ get_or-take (64 * n) fs (k * 64 + r) false (omega arith) ∙ ap (λ j. get_or fs j false) place)
+    ∙ sym (bit_flag n fs k r h l)
 
-pub left_step : (all bs rest : List Bool) (r : ℕ) (b : Bool) → all ≡ bs ++ rest → length bs ≡ 64 → b ≡ get_or bs r false → left all r ≡ digit b + left rest r
-unfolding rows_from
-left_step all bs rest r b e long same =
-    let n : length all / 64 ≡ suc (length rest / 64) = omega (arith, ap (λ (x : List Bool). length x) e, length-append bs rest) in
-    let first : take 64 all ≡ bs = ap (take 64) e ∙ ap (λ k. take k (bs ++ rest)) (sym long) ∙ take-append_seam bs rest in
-    let others : drop 64 all ≡ rest = ap (drop 64) e ∙ ap (λ k. drop k (bs ++ rest)) (sym long) ∙ drop-append_seam bs rest in
-    ap (λ k. members (rows_from k all) r) n
-    ∙ ap (λ x. members (word x ∷ rows_from (length rest / 64) (drop 64 all)) r) first
-    ∙ ap (λ x. members (word bs ∷ rows_from (length rest / 64) x) r) others
-    ∙ user_members bs (rows_from (length rest / 64) rest) r long
-    ∙ ap (λ x. digit x + left rest r) (sym same)
-
-pub left_none : (all : List Bool) (r : ℕ) → length all < 64 → left all r ≡ 0
-unfolding rows_from
-left_none all r h =
-    let n : length all / 64 ≡ 0 = omega arith in
-    ap (λ k. members (rows_from k all) r) n ∙ elim (cases_lt r 64) [ inl l ↦ members_low [] r l | inr g ↦ members_high [] r g ]
-
-pub left_all : (fs : List Bool) (r : ℕ) → left (take (64 * users_in fs) fs) r ≡ members (rows_of fs) r
-left_all fs r =
-    let k = users_in fs in
-    let n : length (take (64 * k) fs) / 64 ≡ k = omega (arith, length-take (64 * k) fs) in
-    ap (λ j. members (rows_from j (take (64 * k) fs)) r) n
-    ∙ ap (λ t. members t r) (same_rows (rows_from k (take (64 * k) fs)) (rows_from k fs) (length_from k (take (64 * k) fs) ∙ sym (length_from k fs)) (from_wide k (take (64 * k) fs)) (from_wide k fs)
-    (λ u j low l.
-    let h : u < k = omega (arith, length_from k (take (64 * k) fs)) in
-    bit_flag k (take (64 * k) fs) u j h l ∙ ap digit (get_or-take (64 * k) fs (64 * u + j) false (omega arith)) ∙ sym (bit_flag k fs u j h l)))
-
-having_most : (t : List ℕ) (r : ℕ) → having r t ≤ length t
-having_most [] r = omega arith
-having_most (w ∷ t) r = omega (arith, sum_by-cons (λ x. bit x r) w t, bit_two w r, having_most t r)
-
-pub members_most : (fs : List Bool) (r : ℕ) → members (rows_of fs) r ≤ 4096
-members_most fs r = elim (cases_lt r 64) [
-  | inl l ↦ omega (arith, members_low (rows_of fs) r l, having_most (rows_of fs) r, length_from (users_in fs) fs)
-  | inr g ↦ omega (arith, members_high (rows_of fs) r g)
-]
+-- the chunks of 64 of the flags in use are the users' flags
+pub counted_members : {S : Type 0} {steps : S → Option (Bor (List Bool)) → S → Type 0} (q : Run steps) (fs xs : List Bool) (r n : ℕ)
+    → n ≡ 64 → xs ≡ in_use fs → q.whole ≡ true → IsChunksExactRun q n xs → fold (λ m x. m + digit (get_or x.now r false)) 0 q.items ≡ members (rows_of fs) r
+unfolding YieldsRun
+counted_members q fs xs r n e same whole cut =
+    let size : length xs ≡ 64 * users_in fs = omega (arith, ap (λ (x : List Bool). length x) same, length-take (64 * users_in fs) fs) in
+    let many : length q.items ≡ users_in fs = sym q.long ∙ cut.1 whole ∙ ap (λ k. length xs / k) e ∙ omega (arith, size) in
+    let at : (k : ℕ) (x : Bor (List Bool)) → slice_get q.items k ≡ Some x → (length x.now ≡ 64) × (x.now ≡ take 64 (drop (k * 64) (in_use fs))) = λ k x is.
+    let part = MatchOption-at_some _ _ x (q.gave.1 k ∙ is) (cut.2 k) in
+    (part.0 ∙ e, part.2.0 ∙ (λ i. take (e i) (drop (k * e i) (same i)))) in
+    elim (cases_lt r 64) [
+      | inl l ↦ omega (arith, members_low (rows_of fs) r l, counted r 0 q.items (rows_of fs) (many ∙ sym (length_from (users_in fs) fs)) (λ k x is. flag_of fs x.now r k (at k x is).1 (omega (arith, many, slice_get_within q.items k x is)) l))
+      | inr g ↦
+          let m = length q.items in
+          omega (
+            arith,
+            members_high (rows_of fs) r g,
+            none_members m r,
+            counted r 0 q.items (replicate m 0) (sym (length-replicate m 0)) (λ k x is.
+                ap digit (get_or_past x.now r false (omega (arith, (at k x is).0))) ∙ sym (ap (λ w. bit w r) (none_row m k) ∙ bit_zero r)),
+          )
+    ]

@@ -73,13 +73,10 @@ impl<'a> FlagTable<'a> {
     fn member_count(&self, role: u32) -> u32
         ensures { result ≡ members (rows_of self.now.flags.now) role }
     {
-        let mut members = 0;
-        for flags in self.used().chunks_exact(64) {
-            if flags.get(role as usize).copied().unwrap_or(false) {
-                members += 1;
-            }
-        }
-        members
+        self.used()
+            .chunks_exact(64)
+            .filter(|flags| flags.get(role as usize).copied().unwrap_or(false))
+            .count() as u32
     }
 }
 
@@ -114,7 +111,8 @@ impl<'a> Register for FlagTable<'a> {
         word_of(self.flags_of(user))
     }
 
-    // Each register tests for itself: an impl of `Register` that calls a function generic in it is a cycle to the check.
+    // The check takes an impl of `Register` that calls a function generic in `Register` for a cycle, so each register makes these
+    // tests itself; a function of the eight numbers that they ask for would be no plainer than they are.
     fn add(&mut self, user: u32, role: u32) -> Result<(), RegisterFault> {
         let Some(flag) = self.place(user, role) else {
             return Err(RegisterFault::NoSuchPair);
@@ -154,16 +152,15 @@ fn word_of(flags: &[bool]) -> u64
     requires { length flags.now ≤ 64 }
     ensures { result ≡ word flags.now }
 {
-    let mut row = 0;
-    for (role, held) in flags.iter().enumerate() {
-        if *held {
-            row = with_member(row, role as u32);
-        }
-    }
-    row
+    flags
+        .iter()
+        .enumerate()
+        .filter(|(_, held)| **held)
+        .fold(0, |row, (role, _)| with_member(row, role as u32))
 }
 
-// Takes the first so many flags away; the check follows a write to a part of a slice here, and loses it through a field.
+// Takes the first so many flags away. In the body of `clear` the proof would lack all but the length of the flags after the `fill`:
+// through a field, a write to a part of a slice is followed where the struct has an invariant, and `FlagTable` needs none.
 fn unset(flags: &mut [bool], count: usize)
     requires { count ≤ length flags.old }
     ensures { flags.new ≡ replicate count false ++ drop count flags.old }

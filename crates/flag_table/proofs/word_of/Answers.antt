@@ -1,23 +1,15 @@
-use Rattle.std.proofs.Common.{◌≡◌, ◌+◌, length, sym, subst, ◌∙◌, arith}
-use Rattle.terms.proofs.Bits.{bit_zero}
-use Rattle.flag_table.proofs.Marks.{Read, read_set, read_off, read_all}
+use Rattle.std.proofs.Common.{◌≡◌, fold, ap, ◌∙◌, rules}
+use Rattle.std.specs.Slice.Iter.{iter_rest}
+use Rattle.flag_table.proofs.Marks.{with_role, with_flag, read_word}
 use Rattle.flag_table.proofs.word_of.Goals as goal
-use Rattle.flag_table.proofs.word_of.Goals.{then-held, else-held}
-
-pub loop-role-init : goal.loop-role-init
-loop-role-init c = record { done = λ k h. absurd (omega arith); rest = λ k h. bit_zero k }
-
-pub loop-role-preserved : goal.loop-role-preserved
-loop-role-preserved c =
-    let bs = c.args.flags.now in
-    let i = c.loop-role.role in
-    elim c.if-held.branch [
-      | then-held w ↦ read_set bs c.loop-role.row c.if-held.row i (omega arith) (w.row-is ∙ w.with_member-row.ensures) w.if-held.true c.loop-role.invariant
-      | else-held w ↦ subst (λ x. Read bs x (i + 1)) (sym w.row-is) (read_off bs c.loop-role.row i w.if-held.false c.loop-role.invariant)
-    ]
 
 pub returns : goal.returns
 returns c =
-    let bs = c.args.flags.now in
-    let all : c.loop-role.role ≡ length bs = omega arith in
-    read_all bs c.loop-role.row (subst (Read bs c.loop-role.row) all c.loop-role.invariant)
+    let p = c.fold.ensures.runs in
+    let set : c.fold.result ≡ fold with_role 0 p.0.items = p.3 with_role (λ row x r after called. (search rules, search rules)) in
+    let f = c.filter.ensures.runs p.0 p.0.seen p.1 in
+    let q = f.0 in
+    let all : fold with_role 0 p.0.items ≡ fold with_flag 0 q.items = f.2.6 with_role with_flag 0 (λ x b after row called. (search rules, search rules)) in
+    let e = c.enumerate.ensures.runs q q.seen f.1 in
+    let z = e.1.0 in
+    set ∙ all ∙ read_word q z c.args.flags.now _ (ap iter_rest e.1.1 ∙ c.iter.ensures.rest) c.requires (e.1.2.1 ∙ f.2.0 ∙ p.2) e.0 e.1.2.0 (c.iter.ensures.runs z z.seen)

@@ -2,7 +2,7 @@ use Rattle.std.proofs.Common.{◌≡◌, ◌*◌, [], ◌∷◌, length, sym, re
 use Rattle.register.proofs.Cases as cases
 use Rattle.bit_rows.specs.Table.{rows_of, model_of}
 use Rattle.bit_rows.proofs.Keeping.{counts_of, counts_with, no_seat, a_seat}
-use Rattle.bit_rows.proofs.Words.{in_table, with_word, model_written, spare_kept}
+use Rattle.bit_rows.proofs.Words.{reads_held, reads_free, in_table, with_word, model_written, spare_kept}
 use Rattle.bit_rows.proofs.BitRowsRegister.add.Goals as goal
 
 pub returns-in_default : goal.returns-in_default
@@ -16,7 +16,7 @@ returns-then-contains c =
     let u = c.args.user in
     let r = c.args.role in
     let i = c.in-Some.ensures in
-    let held = cases.read_held (rows_of ws) u r c.in-Some.row c.contains.result i.same c.contains.ensures.yes c.if-contains.true in
+    let held = reads_held i c.contains.ensures.yes c.if-contains.true in
     let a = cases.add_held (model_of ws) u r (cases.held_true (model_of ws) u r i.low i.small held) in
     record { answer = sym a.answer; model = sym a.model; kept = refl }
 
@@ -27,7 +27,7 @@ returns-then-self-role-ge4096 c =
     let u = c.args.user in
     let r = c.args.role in
     let i = c.in-Some.ensures in
-    let free = cases.read_free (rows_of ws) u r c.in-Some.row c.contains.result i.same c.contains.ensures.no c.if-contains.false in
+    let free = reads_free i c.contains.ensures.no c.if-contains.false in
     let a = cases.add_no_seat (model_of ws) u r i.low i.small free (no_seat ws s.members s.pairs r (counts_of s) i.small (omega arith)) in
     record { answer = sym a.answer; model = sym a.model; kept = refl }
 
@@ -38,7 +38,7 @@ returns-then-self-places c =
     let u = c.args.user in
     let r = c.args.role in
     let i = c.in-Some.ensures in
-    let free = cases.read_free (rows_of ws) u r c.in-Some.row c.contains.result i.same c.contains.ensures.no c.if-contains.false in
+    let free = reads_free i c.contains.ensures.no c.if-contains.false in
     let places : c.places.result ≡ 64 * length (rows_of ws) = c.places.ensures ∙ ap (λ t. 64 * length t) c.rows.ensures in
     let a = cases.add_no_place (model_of ws) u r i.low i.small free (a_seat ws s.members s.pairs r (counts_of s) i.small (omega arith)) (omega (arith, s.counted)) in
     record { answer = sym a.answer; model = sym a.model; kept = refl }
@@ -53,7 +53,7 @@ invariant_of-self c =
     let u = c.args.user in
     let r = c.args.role in
     let i = c.in-Some.ensures in
-    let free = cases.read_free (rows_of ws) u r c.in-Some.row c.contains.result i.same c.contains.ensures.no c.if-contains.false in
+    let free = reads_free i c.contains.ensures.no c.if-contains.false in
     let long : length s.members ≡ 64 = search rules in
     let k = counts_with (rows_of ws) s.members s.pairs u r (counts_of s) long i.low i.small free _ (with_word ws u r c.in-Some.row i c.with_member.result c.with_member.ensures) in
     record { counted = k.counted; each = k.each; wide = k.wide }
@@ -65,7 +65,7 @@ returns c =
     let u = c.args.user in
     let r = c.args.role in
     let i = c.in-Some.ensures in
-    let free = cases.read_free (rows_of ws) u r c.in-Some.row c.contains.result i.same c.contains.ensures.no c.if-contains.false in
+    let free = reads_free i c.contains.ensures.no c.if-contains.false in
     let places : c.places.result ≡ 64 * length (rows_of ws) = c.places.ensures ∙ ap (λ t. 64 * length t) c.rows.ensures in
     let a = cases.add_new (model_of ws) u r i.low i.small free (a_seat ws s.members s.pairs r (counts_of s) i.small (omega arith)) (omega (arith, s.counted)) in
     let x = c.with_member.result in

@@ -3,7 +3,7 @@ use lib.Bits.{bit_xor}
 use Rattle.register.proofs.Cases as cases
 use Rattle.bit_rows.specs.Table.{rows_of, model_of}
 use Rattle.bit_rows.proofs.Keeping.{counts_of, counts_less, some_pair, some_member}
-use Rattle.bit_rows.proofs.Words.{in_table, less_word, model_written, spare_kept}
+use Rattle.bit_rows.proofs.Words.{reads_held, reads_free, in_table, less_word, model_written, spare_kept}
 use Rattle.bit_rows.proofs.BitRowsRegister.remove.Goals as goal
 
 pub returns-in_default : goal.returns-in_default
@@ -18,7 +18,7 @@ returns-then-not-contains c =
     let u = c.args.user in
     let r = c.args.role in
     let i = c.in-Some.ensures in
-    let free = cases.read_free (rows_of ws) u r c.in-Some.row c.contains.result i.same c.contains.ensures.no c.if-not-contains.true in
+    let free = reads_free i c.contains.ensures.no c.if-not-contains.true in
     let a = cases.remove_free (model_of ws) u r (cases.held_false (model_of ws) u r free) in
     record { answer = sym a.answer; model = sym a.model; kept = refl }
 
@@ -32,7 +32,7 @@ overflow_sub-self c =
     let u = c.args.user in
     let r = c.args.role in
     let i = c.in-Some.ensures in
-    let held = cases.read_held (rows_of ws) u r c.in-Some.row c.contains.result i.same c.contains.ensures.yes c.if-not-contains.false in
+    let held = reads_held i c.contains.ensures.yes c.if-not-contains.false in
     some_member (rows_of ws) s.members s.pairs u r (counts_of s) (search rules) i.low i.small held
 
 pub overflow_sub-self-2 : goal.overflow_sub-self-2
@@ -42,7 +42,7 @@ overflow_sub-self-2 c =
     let u = c.args.user in
     let r = c.args.role in
     let i = c.in-Some.ensures in
-    let held = cases.read_held (rows_of ws) u r c.in-Some.row c.contains.result i.same c.contains.ensures.yes c.if-not-contains.false in
+    let held = reads_held i c.contains.ensures.yes c.if-not-contains.false in
     some_pair (rows_of ws) s.members s.pairs u r (counts_of s) (search rules) i.low i.small held
 
 pub invariant_of-self : goal.invariant_of-self
@@ -52,7 +52,7 @@ invariant_of-self c =
     let u = c.args.user in
     let r = c.args.role in
     let i = c.in-Some.ensures in
-    let held = cases.read_held (rows_of ws) u r c.in-Some.row c.contains.result i.same c.contains.ensures.yes c.if-not-contains.false in
+    let held = reads_held i c.contains.ensures.yes c.if-not-contains.false in
     let long : length s.members ≡ 64 = search rules in
     let k = counts_less (rows_of ws) s.members s.pairs u r (counts_of s) long i.low i.small held _ (less_word ws u r c.in-Some.row i) in
     record { counted = k.counted; each = k.each; wide = k.wide }
@@ -64,7 +64,7 @@ returns c =
     let u = c.args.user in
     let r = c.args.role in
     let i = c.in-Some.ensures in
-    let held = cases.read_held (rows_of ws) u r c.in-Some.row c.contains.result i.same c.contains.ensures.yes c.if-not-contains.false in
+    let held = reads_held i c.contains.ensures.yes c.if-not-contains.false in
     let a = cases.remove_held (model_of ws) u r (cases.held_true (model_of ws) u r i.low i.small held) in
     let x = bit_xor c.in-Some.row ((1 * 2 ^ r) % 2 ^ 64) in
     record {

@@ -1,42 +1,16 @@
-use Rattle.std.proofs.Common.{◌≡◌, List, Bool, true, false, get_or, ap, ◌∙◌, arith, rules}
-use Rattle.std.specs.declared.slice.ChunksExact.{ChunksExact}
-use Rattle.flag_table.proofs.Marks.{left, left_step, left_none, left_all, members_most}
+use Rattle.std.proofs.Common.{◌≡◌, ◌+◌, false, get_or, fold, ap, ◌∙◌, arith, rules}
+use Rattle.std.specs.Slice.Iter.{chunks_exact_rest, chunks_exact_size}
+use Rattle.flag_table.specs.Sound.{digit}
+use Rattle.flag_table.proofs.Marks.{counted_members}
 use Rattle.flag_table.proofs.FlagTable.member_count.Goals as goal
-
-pub loop-flags-init : goal.loop-flags-init
-loop-flags-init c =
-    let e = c.chunks_exact-flags-items.ensures in
-    let f = c.into_iter-flags-iterator.ensures.into_iter_gives in
-    record {
-      size = ap (λ (x : ChunksExact Bool). x.size) f ∙ e.size;
-      counted = omega (arith, ap (λ (x : ChunksExact Bool). left x.rest.now c.args.role) f, ap (λ (x : List Bool). left x c.args.role) (e.rest ∙ c.used.ensures), left_all c.args.self.now.flags.now c.args.role);
-    }
-
-pub overflow_add-members : goal.overflow_add-members
-overflow_add-members c =
-    let e = c.in-Some.ensures.steps in
-    let v : true ≡ get_or c.in-Some.flags.now c.args.role false = search rules in
-    omega (arith, c.loop-flags.invariant.counted, members_most c.args.self.now.flags.now c.args.role, left_step _ c.in-Some.flags.now c.next.new.self.rest.now c.args.role true e.1.0 (e.1.1 ∙ c.loop-flags.invariant.size) v)
-
-pub loop-flags-preserved-then-unwrap_or : goal.loop-flags-preserved-then-unwrap_or
-loop-flags-preserved-then-unwrap_or c =
-    let e = c.in-Some.ensures.steps in
-    let v : true ≡ get_or c.in-Some.flags.now c.args.role false = search rules in
-    record {
-      size = e.0 ∙ c.loop-flags.invariant.size;
-      counted = omega (arith, c.loop-flags.invariant.counted, left_step _ c.in-Some.flags.now c.next.new.self.rest.now c.args.role true e.1.0 (e.1.1 ∙ c.loop-flags.invariant.size) v);
-    }
-
-pub loop-flags-preserved : goal.loop-flags-preserved
-loop-flags-preserved c =
-    let e = c.in-Some.ensures.steps in
-    let v : false ≡ get_or c.in-Some.flags.now c.args.role false = search rules in
-    record {
-      size = e.0 ∙ c.loop-flags.invariant.size;
-      counted = omega (arith, c.loop-flags.invariant.counted, left_step _ c.in-Some.flags.now c.next.new.self.rest.now c.args.role false e.1.0 (e.1.1 ∙ c.loop-flags.invariant.size) v);
-    }
 
 pub returns : goal.returns
 returns c =
-    let e = c.in-None.ensures.steps in
-    omega (arith, c.loop-flags.invariant.counted, left_none c.loop-flags.flags-iterator.rest.now c.args.role (omega (arith, e.1.0, c.loop-flags.invariant.size)))
+    let r = c.args.role in
+    let p = c.count.ensures.runs in
+    let f = c.filter.ensures.runs p.0 p.0.seen p.1 in
+    let q = f.0 in
+    let size : chunks_exact_size q.from ≡ 64 = ap chunks_exact_size f.1 ∙ c.chunks_exact.ensures.size in
+    let rest = ap chunks_exact_rest f.1 ∙ c.chunks_exact.ensures.rest ∙ c.used.ensures in
+    let sum : p.0.len ≡ fold (λ n x. n + digit (get_or x.now r false)) 0 q.items = f.2.5 _ (λ x b after n called. (search rules, search rules)) in
+    p.3 ∙ sum ∙ counted_members q c.args.self.now.flags.now (chunks_exact_rest q.from) r (chunks_exact_size q.from) size rest (f.2.0 ∙ p.2) (c.chunks_exact.ensures.runs q q.seen (omega (arith, size)))
