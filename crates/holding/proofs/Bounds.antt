@@ -1,6 +1,6 @@
 -- The bounds that limits set on what a user can hold. Assumes nothing.
 use Rattle.std.proofs.Common.{◌≡◌, ℕ, ◌+◌, ◌-◌, ◌*◌, ◌^◌, ◌<◌, ◌≤◌, ◌⊎◌, get_or, w64, sym, subst, inl, inr, le_trans, mul-le-mul_right, arith}
-use lib.Bits.{bit_and, bit_or}
+use lib.Bits.{bit_and, bit_or, bit_xor}
 use lib.Count.{ones}
 use Rattle.std.proofs.lemmas.Nat.Bits.{bit_at_not}
 use Rattle.terms.specs.Sets.{bit, In, Within, Difference}
@@ -29,6 +29,17 @@ fresh_more all u r old = ones_either (fresh all (bit_or u r) old) (fresh all u o
       | inl y ↦ elim ((cut (bit_and all u) old).other k (in_both all u k x.0 y)) [ inl z ↦ absurd (not_old z) | inr z ↦ inl z ]
       | inr y ↦ elim ((cut (bit_and all r) old).other k (in_both all r k x.0 y)) [ inl z ↦ absurd (not_old z) | inr z ↦ inr z ]
     ])
+
+-- as many are left as are cut
+pub ones_left : (w g r : ℕ) → Difference w g r → ones r ≡ ones (bit_xor w (bit_and w g))
+ones_left w g r o =
+    let q = bit_xor w (bit_and w g) in
+    let d = cut w g in
+    omega (
+      arith,
+      ones_mono r q (λ k i. elim (d.other k (o.inside k i)) [ inl x ↦ absurd (o.apart k x i) | inr x ↦ x ]),
+      ones_mono q r (λ k i. elim (o.other k (d.inside k i)) [ inl x ↦ absurd (d.apart k x i) | inr x ↦ x ]),
+    )
 
 module _ (p : Plan) (word wanted w : ℕ) (h : Holder p word wanted w) where
   pub fresh_limit : (i : ℕ) → i < constraint_count p

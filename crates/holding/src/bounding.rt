@@ -1,5 +1,5 @@
 // Bounds on what the user can come to hold. Each is sound; which constraints are looked at is free.
-ghost use Rattle.std.specs.Prelude.{◌≡◌, ℕ, ◌+◌, ◌-◌, ◌≤◌, true, bit_and, count_ones, slice_index};
+ghost use Rattle.std.specs.Prelude.{◌≡◌, ℕ, ◌+◌, ◌-◌, ◌*◌, ◌≤◌, true, nat_lt, bit_and, bit_xor, count_ones, slice_index};
 ghost use Rattle.terms.specs.Sets.{Difference};
 ghost use Rattle.plan.specs.Authority.{held};
 ghost use Rattle.holding.specs.Search.{Nobody, NamedRight};
@@ -43,6 +43,15 @@ impl Sought<'_> {
             .saturating_sub((self.all & c.roles).count_ones())
     }
 
+    // Whether the roles of a constraint that he may still take, which bring at most `each`, are too few for what is open and not
+    // granted apart from it.
+    fn too_few(&self, c: &Constraint, apart: PermissionSet, open: PermissionSet, each: u32) -> bool
+        ensures { result ≡ nat_lt ((c.now.limit - 1 - count_ones (bit_and self.now.all c.now.roles)) * each) (count_ones (bit_xor «open» (bit_and «open» apart))) }
+    {
+        let here = difference(open, apart);
+        here.count_ones() as u64 > self.slack(c) as u64 * each as u64
+    }
+
     // Whether some limit leaves him too few roles to come to hold all of it.
     pub(crate) fn beyond(&self) -> bool
         ensures { result ≡ true → Nobody self.now }
@@ -50,14 +59,10 @@ impl Sought<'_> {
         let plan = self.survey.plan;
         let open = self.open();
         let each = most(plan, open);
-        // a loop: an `any` would have to name `here` in its answer, of which `difference` says only which members it has
-        for (c, apart) in plan.constraints().iter().zip(&self.survey.outside) {
-            let here = difference(open, *apart);
-            if here.count_ones() as u64 > self.slack(c) as u64 * each as u64 {
-                return true;
-            }
-        }
-        false
+        plan.constraints()
+            .iter()
+            .zip(&self.survey.outside)
+            .any(|(c, apart)| self.too_few(c, *apart, open, each))
     }
 
     // One pass over the constraints: takes each of which more useful roles are not yet named than `times` its room.
