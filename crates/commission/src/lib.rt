@@ -16,7 +16,8 @@ pub struct Judgement {
     pub answer: Result<(), JudgeFault>,
 }
 
-// Makes the plan from empty by the additions of the log, writes each answer beside its addition, and judges the plan into the place.
+// Makes the plan from empty by the additions of the log, writes each answer beside its addition, and judges the plan into the place. The
+// place and the witness record are the caller's, who goes on with both.
 pub fn commission(log: &mut [Entry], place: &mut JudgedPlan, witness: &mut Witness) -> Judgement
     ensures additions { additions log.new ≡ additions log.old }
     ensures promise { Promise log.new result.plan result.answer place.old place.new witness.old witness.new }

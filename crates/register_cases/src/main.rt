@@ -14,6 +14,8 @@ mod generator;
 mod model;
 mod trial;
 
+// The heap and the random numbers are `main`'s, and each run is given them.
+
 // A table of words with any content.
 fn table(heap: Global, words: usize, random: &mut Generator) -> Result<Vec<u64>, AllocError> {
     let content = (0..words).map(|_| random.next() & random.next() & random.next());

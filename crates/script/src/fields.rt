@@ -71,6 +71,7 @@ fn places(heap: Global, text: &[u8]) -> Result<Vec<Place>, AllocError>
     ensures { IfOk result (λ v. Listed text.now true 0 v.items) }
 {
     let mut places = Vec::new(heap);
+    // a loop: a push may want memory, and a walk that is refused stays where it stands
     let mut walk = Walk::new(text);
     while let Ok(Some(field)) = walk.next_field() {
         places.push(Place::from(field))?;

@@ -55,6 +55,7 @@ fn spelled(heap: Global, typed: &[u8]) -> Result<Option<Vec<u8>>, AllocError>
     ensures { IfOk result (λ o. MatchOption o ((bytes : List ℕ) → Spells typed.now 0 bytes → ⊥) (λ v. Spells typed.now 0 v.items)) }
 {
     let mut bytes = Vec::new(heap);
+    // a loop: a push may want memory, and a byte that is not understood ends it
     let mut rest = typed;
     while !rest.is_empty() {
         let Some((byte, after)) = unit(rest) else {

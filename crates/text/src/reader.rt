@@ -6,7 +6,7 @@ ghost use Rattle.text.specs.Faults.{FieldRefused, RecordRefused, ColumnsRefused}
 
 use crate::field::{Field, Span, TextFault};
 
-// A reader over lent bytes, and the place where it stands.
+// A reader over lent bytes, and the place where it stands. Its calls leave the text (`same`), a fact of each call.
 #[derive(Clone, Copy)]
 pub struct Reader<'a> {
     pub(crate) text: &'a [u8],

@@ -96,6 +96,7 @@ impl fmt::Display for Fields<'_> {
 pub(crate) struct Pairs<'a>(pub(crate) &'a [u8]);
 
 impl fmt::Display for Pairs<'_> {
+    // record after record, as a reader has no end of its own where one is refused
     fn fmt<W: fmt::Write>(&self, f: &mut fmt::Formatter<W>) -> fmt::Result {
         let mut reader = Reader::new(self.0);
         while !reader.at_end() {
