@@ -2,7 +2,7 @@ use Rattle.std.proofs.Common.{◌≡◌, ◌*◌, ◌%◌, ◌^◌, [], ◌∷�
 use lib.Bits.{bit_xor}
 use Rattle.register.proofs.Cases as cases
 use Rattle.bit_rows.specs.Table.{rows_of, model_of}
-use Rattle.bit_rows.proofs.Keeping.{counts_of, counts_less, some_pair, some_member}
+use Rattle.bit_rows.proofs.Keeping.{counts_of, counts_less, some_pair}
 use Rattle.bit_rows.proofs.Words.{reads_held, reads_free, in_table, less_word, model_written, spare_kept}
 use Rattle.bit_rows.proofs.BitRowsRegister.remove.Goals as goal
 
@@ -24,16 +24,6 @@ returns-then-not-contains c =
 
 pub bounds-self-user : goal.bounds-self-user
 bounds-self-user c = in_table c.args.self.now.words.now c.args.user c.args.role c.in-Some.row c.in-Some.ensures
-
-pub overflow_sub-self : goal.overflow_sub-self
-overflow_sub-self c =
-    let s = c.args.self.now in
-    let ws = s.words.now in
-    let u = c.args.user in
-    let r = c.args.role in
-    let i = c.in-Some.ensures in
-    let held = reads_held i c.contains.ensures.yes c.if-not-contains.false in
-    some_member (rows_of ws) s.members s.pairs u r (counts_of s) (search rules) i.low i.small held
 
 pub overflow_sub-self-2 : goal.overflow_sub-self-2
 overflow_sub-self-2 c =

@@ -10,9 +10,6 @@ use Rattle.holding.proofs.Bounds.{named_more}
 use Rattle.holding.proofs.Sought.name_more.Goals as goal
 use Rattle.holding.proofs.Sought.name_more.Goals.{then-fresh-max, else-fresh-max}
 
-pub overflow_add-named : goal.overflow_add-named
-overflow_add-named c = omega (arith, ones-le 64 c.difference-fresh.result c.difference-fresh.type_inv, c.if-fresh-max.true, c.loop-c.invariant.0, c.requires.small, c.loop-c-test.true, ap length c.constraints-c-items.ensures, c.args.self.now.survey.now.plan.now.bounded)
-
 pub loop-c-preserved : goal.loop-c-preserved
 loop-c-preserved c =
     let u = c.args.self.now in

@@ -6,9 +6,6 @@ use Rattle.plan.specs.declared.Entry.{Entry}
 use Rattle.plan.proofs.Histories as histories
 use Rattle.plan.proofs.Plan.from_log.Goals as goal
 
-pub loop-entry-init : goal.loop-entry-init
-loop-entry-init c = (refl, (λ k l. absurd (omega arith)), c.new-plan.ensures)
-
 pub loop-entry-preserved : goal.loop-entry-preserved
 loop-entry-preserved c =
     let log = c.loop-entry.log in

@@ -1,14 +1,6 @@
-use Rattle.std.proofs.Common.{◌≡◌, [], sym, refl, ap, ◌∙◌, subst}
-use Rattle.script.proofs.Shown.{Printed, none_printed, more_printed, whole}
+use Rattle.std.proofs.Common.{refl}
+use Rattle.script.proofs.Shown.{more_printed, whole}
 use Rattle.script.proofs.sets.MembersDisplay.fmt.Goals as goal
-
-pub loop-member-init : goal.loop-member-init
-loop-member-init g c =
-    let took = g.W.Write.write_str_gives in
-    let f = c.write.new.self in
-    let set = c.args.self.now.set in
-    let all : c.into_iter-member-iterator.result.left ≡ set = ap (λ m. m.left) c.into_iter-member-iterator.ensures.into_iter_gives ∙ c.of-member-items.ensures in
-    (tt, tt, subst (λ v. Printed took f set v [] f) (sym all) (none_printed took f set))
 
 pub loop-member-preserved : goal.loop-member-preserved
 loop-member-preserved g c =
