@@ -159,8 +159,8 @@ fn word_of(flags: &[bool]) -> u64
         .fold(0, |row, (role, _)| with_member(row, role as u32))
 }
 
-// Takes the first so many flags away. In the body of `clear` the proof would lack all but the length of the flags after the `fill`:
-// through a field, a write to a part of a slice is followed where the struct has an invariant, and `FlagTable` needs none.
+// Takes the first so many flags away. In the body of `clear` the proof would lack all but the length of the flags after the
+// `fill`, which it follows through a field only where the struct has an invariant; `FlagTable` needs none.
 fn unset(flags: &mut [bool], count: usize)
     requires { count ≤ length flags.old }
     ensures { flags.new ≡ replicate count false ++ drop count flags.old }

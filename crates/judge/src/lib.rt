@@ -26,6 +26,7 @@ pub struct JudgedPlan {
 pub struct Witness {
     pub policy: usize,
     pub users: usize,
+    // seven sets with their number beside them: the record is lent, and its form is given by a rule of the project
     pub roles: [RoleSet; 7],
 }
 

@@ -1,4 +1,5 @@
-// A register that is lent is a register: calls through the reference are calls of what it points to.
+// A register that is lent is a register: calls through the reference are calls of what it points to. Each is written out, as in
+// the seat layer: an impl names every method of its trait.
 ghost use Rattle.std.specs.Prelude.{◌≡◌};
 ghost use Rattle.register.specs.Model.{lent_by};
 

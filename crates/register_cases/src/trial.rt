@@ -85,8 +85,8 @@ impl Trial<'_> {
             && register.pairs() as usize == self.model.pairs()
     }
 
-    // Performs random calls, and compares each answer, every count and every row after it; roles and users past the last
-    // are asked for too.
+    // Performs so many random calls, and compares each answer, every count and every row after it; roles and users past the
+    // last are asked for too, so these are ranges of numbers.
     pub(crate) fn compare<R: Register>(&mut self, register: &mut R) -> Tally {
         let mut tally = Tally::new();
         for _ in 0..CALLS {

@@ -13,6 +13,7 @@ use text::walk::{Walk, WrongRecord, count_records};
 pub struct Place {
     pub start: usize,
     pub end: usize,
+    // of every place it is true or false: an enum of two would be no plainer
     pub last: bool,
 }
 

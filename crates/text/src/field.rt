@@ -17,6 +17,7 @@ pub struct Field<'a> {
     pub bytes: &'a [u8],
     pub start: usize,
     pub end: usize,
+    // of every field it is true or false, as of a `Span`: an enum of two would be no plainer
     pub quoted: bool,
     pub mark: Mark,
 }

@@ -35,11 +35,12 @@ pub fn count_records(text: &[u8]) -> Result<usize, WrongRecord>
     Ok(count)
 }
 
-// A walk over the fields of a text, record after record.
+// A walk over the fields of a text, record after record. Its call leaves the text (`same`), a fact of the call.
 #[derive(Drop)]
 pub struct Walk<'a> {
     reader: Reader<'a>,
-    // whether it stands inside a record: a comma came last, and the text's end would end one more field
+    // whether it stands inside a record: a comma came last, and the text's end would end one more field; the last mark itself,
+    // as an `Option`, would say no more
     inside: bool,
 }
 

@@ -30,7 +30,8 @@ pub fn header_len(header: &[u8]) -> Option<usize>
     header.len().checked_add(2)
 }
 
-// The length of a table's text; none where no buffer holds it.
+// The length of a table's text; none where no buffer holds it. A table is a header and records, two arguments wherever it is
+// measured or written: a struct of both would be made for that alone.
 pub fn table_len<const COLUMNS: usize>(header: &[u8], records: &[[u64; COLUMNS]]) -> Option<usize>
     ensures { Measured (table header.now records.now) result }
 {
