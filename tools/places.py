@@ -5,10 +5,11 @@
     python3 tools/places.py all      each place too
 
 Each point has patterns over the lines of crates/*/src. A line that is printed is a place to look at,
-not a fault: docs/DESIGN-PASS.md says of each what it is.
+not a fault: docs/DESIGN-PASS.md says what those of an older form became, and which stayed and why.
 """
 import collections
 import glob
+import itertools
 import re
 import sys
 
@@ -84,15 +85,21 @@ def types():
             yield '2 structs of one shape', ' / '.join(places)
 
 
+def repeated(found, point, told):
+    """Those of the found that three functions or more of a crate have."""
+    for key, names in sorted(found.items()):
+        if len(names) >= 3:
+            yield point, told(key, names)
+
+
 def facts():
     """Clauses that stand in the contracts of three functions or more of a crate."""
     found = collections.defaultdict(list)
     for name, text in sources():
         for m in re.finditer(r'^\s*(requires|ensures) (?:\w+ )?(\{.*\})$', text, re.M):
             found[(name.split('/')[1], m.group(1), m.group(2))].append(name)
-    for (crate, kind, fact), names in sorted(found.items()):
-        if len(names) >= 3:
-            yield '5 clauses in three contracts', f'{crate}: {kind} {fact} ({len(names)})'
+    return repeated(found, '5 clauses in three contracts',
+                    lambda key, names: f'{key[0]}: {key[1]} {key[2]} ({len(names)})')
 
 
 def companions():
@@ -101,22 +108,19 @@ def companions():
     for name, text in sources():
         for m in re.finditer(r'fn (\w+)(?:<[^>(]*>)?\(([^)]*)\)', text):
             taken = [re.sub(r"\s+|&('\w+ )?(mut )?", '', p) for p in m.group(2).split(',') if ':' in p]
-            for i, one in enumerate(taken):
-                for other in taken[i + 1:]:
-                    found[(name.split('/')[1], one, other)].append(m.group(1))
-    for (crate, one, other), names in sorted(found.items()):
-        if len(names) >= 3:
-            yield '5 parameters that travel together', f'{crate}: {one}, {other}: {" ".join(names)}'
+            for one, other in itertools.combinations(taken, 2):
+                found[(name.split('/')[1], one, other)].append(m.group(1))
+    return repeated(found, '5 parameters that travel together',
+                    lambda key, names: f'{key[0]}: {key[1]}, {key[2]}: {" ".join(names)}')
 
 
 def proofs():
     for name in sorted(glob.glob('crates/*/proofs/**/*.antt', recursive=True)):
         with open(name, encoding='utf-8') as f:
             text = f.read()
-        point = '8 answers' if name.endswith('Answers.antt') else None
-        if point:
+        if name.endswith('Answers.antt'):
             for m in re.finditer(r'^pub (\S+) : goal\.', text, re.M):
-                yield point, f'{name}: {m.group(1)}'
+                yield '8 answers', f'{name}: {m.group(1)}'
         elif not name.endswith(('Invariants.antt', 'Lib.antt')):
             for m in re.finditer(r'^(?:abbrev |unfoldable )?(?:pub )?(\S+) : ', text, re.M):
                 yield '8 lemmas', f'{name}: {m.group(1)}'

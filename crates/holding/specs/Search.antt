@@ -16,6 +16,7 @@ pub record Holder (p : Plan) (word wanted w : ℕ) : Type 0 where
 abbrev pub Fits : Sought → ℕ → Type 0
 Fits u w = Holder u.survey.now.plan.now u.word u.wanted w
 
+-- nobody is
 abbrev pub Nobody : Sought → Type 0
 Nobody u = (w : ℕ) → Fits u w → ⊥
 
