@@ -1,3 +1,4 @@
 pub mod Answering
 pub mod Performed
+pub mod Printed
 pub mod Tallying

@@ -31,10 +31,12 @@ impl Call {
                 Call::Add(Addition::Grant(number(role)?, number(permission)?))
             }
             ["policy", least, permissions @ ..] => {
-                Call::Add(Addition::Policy(members(permissions)?, number(least)?))
+                let least = number(least)?;
+                Call::Add(Addition::Policy(members(permissions)?, least))
             }
             ["constraint", limit, roles @ ..] => {
-                Call::Add(Addition::Constraint(members(roles)?, number(limit)?))
+                let limit = number(limit)?;
+                Call::Add(Addition::Constraint(members(roles)?, limit))
             }
             ["authorised-roles", roles @ ..] => Call::AuthorisedRoles(members(roles)?),
             ["held-permissions", roles @ ..] => Call::HeldPermissions(members(roles)?),

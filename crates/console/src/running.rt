@@ -1,5 +1,7 @@
 // A whole script: its lines one by one, and the totals.
-ghost use Rattle.std.specs.Prelude.{◌≡◌, ◌+◌, ◌^◌, ◌<◌, ◌≤◌, length};
+ghost use Rattle.std.specs.Prelude.{◌≡◌, ◌+◌, ◌^◌, ◌<◌, ◌≤◌, IfOk, length};
+ghost use Rattle.console.specs.declared.tally.Outcome.TheVariants.{Accepted};
+ghost use Rattle.console.specs.Printed.{Answered};
 
 use super::reading::read_call;
 use super::state::State;
@@ -35,7 +37,8 @@ impl Session {
 
     // Performs the call of a line, and prints the line with its answer. Gives what became of the call.
     fn perform_call(&mut self, number: usize, line: &[u8]) -> io::Result<Outcome>
-        ensures { self.new.totals ≡ self.old.totals }
+        ensures totals { self.new.totals ≡ self.old.totals }
+        ensures printed { IfOk result (λ o. o ≡ Accepted → Answered self.old.state self.old.out.items line.now self.new.state self.new.out.items) }
     {
         let Some(call) = read_call(self.heap, line)? else {
             writeln!(self.out, "line {number}: not understood")?;

@@ -1,10 +1,11 @@
 // One run: the same calls to a register and to the model.
 use super::generator::Generator;
 use super::model::Model;
-use register::Register;
 use register::seats::SeatLayer;
+use register::{Register, RegisterFault};
 use std::array;
 use tally::Tally;
+use terms::refusals::number_of;
 
 // The table that was lent holds the model's rows.
 pub(crate) fn note_rows(tally: &mut Tally, model: &Model, table: &[u64]) {
@@ -45,6 +46,16 @@ fn some_role(random: &mut Generator) -> u32 {
     }
 }
 
+// The number of an answer, 0 where the pair is held: the refusal table's, written here once more to hold the service's against.
+fn expected(answer: &Result<(), RegisterFault>) -> u32 {
+    match answer {
+        Ok(()) => 0,
+        Err(RegisterFault::NoSuchPair) => 51,
+        Err(RegisterFault::SeatsFull(_)) => 52,
+        Err(RegisterFault::PlacesFull) => 53,
+    }
+}
+
 // A run: the model that a register is held against, and where its calls come from.
 #[derive(Drop)]
 pub(crate) struct Trial<'a> {
@@ -73,7 +84,10 @@ impl Trial<'_> {
                 self.model.clear();
                 true
             }
-            n if n < 70 => register.add(user, role) == self.model.add(user, role),
+            n if n < 70 => {
+                let answer = register.add(user, role);
+                answer == self.model.add(user, role) && number_of(&answer) == expected(&answer)
+            }
             _ => register.remove(user, role) == self.model.remove(user, role),
         }
     }
@@ -114,13 +128,15 @@ impl Trial<'_> {
         tally
     }
 
-    // The same under two layers.
+    // The same under two layers, one moved into the other.
     pub(crate) fn under_two<R: Register>(&mut self, register: &mut R) -> Tally {
-        let lower = seats(self.random);
+        let (lower, upper) = (seats(self.random), seats(self.random));
+        self.model.clear();
         self.model.limit(&lower);
-        let mut layer = SeatLayer::new(register, lower);
-        let tally = self.under_one(&mut layer);
-        let _ = layer.into_below();
+        self.model.limit(&upper);
+        let mut layer = SeatLayer::new(SeatLayer::new(register, lower), upper);
+        let tally = self.compare(&mut layer);
+        let _ = layer.into_below().into_below();
         tally
     }
 }
