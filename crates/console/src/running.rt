@@ -1,8 +1,8 @@
 // A whole script: its lines one by one, and the totals.
 ghost use Rattle.std.specs.Prelude.{◌≡◌, ◌+◌, ◌^◌, ◌<◌, ◌≤◌, IfOk, length};
-ghost use Rattle.console.specs.declared.tally.Outcome.TheVariants.{Accepted};
-ghost use Rattle.console.specs.Printed.{Answered};
+ghost use Rattle.console.specs.Printed.{Answered, Called};
 
+use super::calls::Call;
 use super::reading::read_call;
 use super::state::State;
 use super::tally::{Outcome, Totals};
@@ -35,15 +35,11 @@ impl Session {
         }
     }
 
-    // Performs the call of a line, and prints the line with its answer. Gives what became of the call.
-    fn perform_call(&mut self, number: usize, line: &[u8]) -> io::Result<Outcome>
+    // Performs a call, and prints its line with the answer. Gives what became of the call.
+    fn answer_call(&mut self, line: &[u8], call: Call) -> io::Result<Outcome>
         ensures totals { self.new.totals ≡ self.old.totals }
-        ensures printed { IfOk result (λ o. o ≡ Accepted → Answered self.old.state self.old.out.items line.now self.new.state self.new.out.items) }
+        ensures answered { IfOk result (λ o. Answered self.old.state call self.old.out.items line.now o self.new.state self.new.out.items) }
     {
-        let Some(call) = read_call(self.heap, line)? else {
-            writeln!(self.out, "line {number}: not understood")?;
-            return Ok(Outcome::NotUnderstood);
-        };
         let answer = self.state.perform(call)?;
         self.out.extend_from_slice(line)?;
         match &answer {
@@ -51,6 +47,18 @@ impl Session {
             Err(refusal) => writeln!(self.out, " -> {refusal}")?,
         }
         Ok(Outcome::of(&answer))
+    }
+
+    // Performs the call of a line, and prints the line with its answer. Gives what became of the call.
+    fn perform_call(&mut self, number: usize, line: &[u8]) -> io::Result<Outcome>
+        ensures totals { self.new.totals ≡ self.old.totals }
+        ensures called { IfOk result (λ o. Called self.old.state self.old.out.items line.now o self.new.state self.new.out.items) }
+    {
+        let Some(call) = read_call(self.heap, line)? else {
+            writeln!(self.out, "line {number}: not understood")?;
+            return Ok(Outcome::NotUnderstood);
+        };
+        self.answer_call(line, call)
     }
 
     // Prints a comment or an empty line as it is, and performs any other line.
