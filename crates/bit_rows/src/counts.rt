@@ -58,8 +58,8 @@ impl<'a> Rows<'a> {
     {
         self.words
             .iter()
-            .filter(|row| has_role(**row, role))
-            .count() as u32
+            .map(|row| has_role(*row, role) as u32)
+            .sum()
     }
 
     // The number of members of each role.

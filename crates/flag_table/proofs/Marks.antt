@@ -1,28 +1,27 @@
--- Setting and taking away flags, and reading a row flag after flag. Assumes nothing.
-use Rattle.std.proofs.Common.{◌≡◌, ℕ, ◌+◌, ◌*◌, ◌/◌, ◌%◌, ◌^◌, ◌<◌, ◌≤◌, min, Bool, Bor, Option, Some, fold, true, false, cond, ltb, ◌⊎◌, List, [], ◌∷◌, ◌++◌, zero, suc, map, length, get_or, take, drop, set, replicate, count_by, refl, sym, ap, ◌∙◌, subst, inl, inr, arith, drop-set-lt, length-append, length-drop}
+-- Setting and taking away flags, reading a row from its last flag back, and counting flags. Assumes nothing.
+use Rattle.std.proofs.Common.{◌≡◌, ℕ, ◌+◌, ◌*◌, ◌/◌, ◌%◌, ◌^◌, ◌<◌, ◌≤◌, min, Bool, Bor, Option, Some, fold, true, false, ◌⊎◌, List, [], ◌∷◌, ◌++◌, zero, suc, map, length, get_or, take, drop, set, replicate, reverse, count_by, refl, sym, ap, ◌∙◌, subst, inl, inr, arith, lt_of_lt_of_le, pow_mono, drop-set-lt, length-append, length-drop}
 use Rattle.std.specs.List.{slice_get}
-use Rattle.std.specs.Iterator.Runs.{Run, YieldsRun, ProjectsRun, ItemsMapTo, IsChunksExactRun}
-use Rattle.std.specs.Option.{IfSome, option_map}
+use Rattle.std.specs.Iterator.Runs.{Run, YieldsRun, IsChunksExactRun}
 use Rattle.std.proofs.lemmas.Option.{MatchOption-at_some, slice_get_within}
 use lib.Bits.{bit_or, bit_xor, or_lt, xor_lt}
 use lib.Count.{ones, ones_step}
 use Rattle.std.proofs.Math.Seq.{take-add}
-use Rattle.std.proofs.lemmas.List.Sums.{sum_by-cons, sum_by-append}
+use Rattle.std.proofs.lemmas.List.Sums.{sum_by-cons, sum_by-append, fold_push}
 use Rattle.terms.proofs.Sizes.{ones_none}
-use Rattle.std.proofs.lemmas.Nat.{pow_pos, pow_below}
-use Rattle.std.proofs.lemmas.List.{get_or_past, get_or-set_same, get_or-set_other, get_or_append_left, get_or-replicate, get_or-take, get_or-drop, length-take, length-set, length-replicate}
+use Rattle.std.proofs.lemmas.Nat.{pow_pos, pow_below, or_shifted}
+use Rattle.std.proofs.lemmas.List.{reverse-append, get_or-set_same, get_or-set_other, get_or_append_left, get_or-replicate, get_or-take, get_or-drop, length-take, length-set, length-replicate}
 use Rattle.std.proofs.lemmas.Slice.{drop-append-drop}
-use Rattle.std.proofs.lemmas.Bool.{cases_eq, cases_lt, cond-true, lt-ltb}
+use Rattle.std.proofs.lemmas.Bool.{cases_eq}
 use Rattle.terms.specs.Sets.{bit}
-use Rattle.terms.proofs.Bits.{bit_zero, same_digits, with_new, with_other}
+use Rattle.terms.proofs.Bits.{bit_zero}
 use Rattle.register.specs.Pairs.{row, Has, pairs, having, members, with_pair, less_pair, emptied}
-use Rattle.register.proofs.Cases.{members_low, members_high}
+use Rattle.register.proofs.Cases.{members_low}
 use Rattle.register.specs.Model.{users_of, with_rows}
 use Rattle.register.proofs.Tables.{each_row, same_rows, none_row, none_members, pairs_most}
 use Rattle.register.proofs.Tables as t
 use Rattle.flag_table.specs.Flags.{word, rows_from, users_in, rows_of, in_use, model_of, spare_of, Inside, Outside}
-use Rattle.flag_table.specs.Sound.{digit, digit_two, length_from, from_wide}
-use Rattle.flag_table.proofs.Words.{bit_word, bit_flag}
+use Rattle.flag_table.specs.Sound.{digit, digit_two, word_below, length_from, from_wide}
+use Rattle.flag_table.proofs.Words.{bit_flag}
 
 -- ---- as many flags, with other rows
 users_same : (fs gs : List Bool) → length gs ≡ length fs → users_in gs ≡ users_in fs
@@ -143,73 +142,24 @@ module _ (fs : List Bool) (s : ℕ) where
   pub spare_unset : spare_of (replicate (64 * users_in fs) false ++ drop (64 * users_in fs) fs) ≡ spare_of fs
   spare_unset = spare_same fs _ long (drop-append-drop (64 * users_in fs) fs (replicate (64 * users_in fs) false) (64 * users_in fs) (omega arith) front)
 
--- ---- a word that is read flag after flag: right below role i, and empty from there on
-pub record Read (bs : List Bool) (row i : ℕ) : Type 0 where
-  pub done : (k : ℕ) → k < i → bit row k ≡ digit (get_or bs k false)
-  pub rest : (k : ℕ) → i ≤ k → bit row k ≡ 0
+-- ---- a word that is read from its last flag back
+-- the bits move up, and the flag is the lowest
+abbrev pub moved_up : ℕ → Bool → ℕ
+moved_up row b = bit_or (row * 2 ^ 1 % 2 ^ 64) (digit b)
 
-pub read_set : (bs : List Bool) (row new i : ℕ) → i < 64 → new ≡ cond (ltb i 64) (bit_or row (2 ^ i)) row → get_or bs i false ≡ true → Read bs row i → Read bs new (i + 1)
-read_set bs row new i l e h o =
-    let f : new ≡ bit_or row (2 ^ i) = e ∙ cond-true _ _ _ (lt-ltb i 64 l) in
-    subst (λ x. Read bs x (i + 1)) (sym f) (record {
-      done = λ k b. elim (cases_eq k i) [
-        | inl q ↦ subst (λ x. bit (bit_or row (2 ^ i)) x ≡ digit (get_or bs x false)) (sym q) (with_new row i ∙ sym (ap digit h))
-        | inr ne ↦ with_other row i k ne ∙ o.done k (omega arith)
-      ];
-      rest = λ k b. with_other row i k (λ q. omega arith) ∙ o.rest k (omega arith);
-    })
+moved_word : (b : Bool) (w : ℕ) → w < 2 ^ 63 → moved_up w b ≡ digit b + 2 * w
+moved_word b w wide =
+    let room : w * 2 ^ 1 % 2 ^ 64 ≡ w * 2 ^ 1 = omega arith in
+    omega (arith, ap (λ x. bit_or x (digit b)) room, or_shifted w 1 (digit b) (digit_two b))
 
-pub read_off : (bs : List Bool) (row i : ℕ) → get_or bs i false ≡ false → Read bs row i → Read bs row (i + 1)
-read_off bs row i h o = record {
-  done = λ k b. elim (cases_eq k i) [ inl q ↦ subst (λ x. bit row x ≡ digit (get_or bs x false)) (sym q) (o.rest i (omega arith) ∙ sym (ap digit h)) | inr ne ↦ o.done k (omega arith) ];
-  rest = λ k b. o.rest k (omega arith);
-}
-
-pub read_all : (bs : List Bool) (row : ℕ) → Read bs row (length bs) → row ≡ word bs
-read_all bs row o = same_digits row (word bs) (λ k. sym (bit_word bs k ∙ elim (cases_lt k (length bs)) [ inl l ↦ sym (o.done k l) | inr g ↦ ap digit (get_or_past bs k false g) ∙ sym (o.rest k g) ]))
-
--- the word with the role of a flag that is set
-abbrev pub with_role : ℕ → ℕ × Bor Bool → ℕ
-with_role row x = cond (ltb x.0 64) (bit_or row (2 ^ x.0)) row
-
--- and of a flag, set or not
-abbrev pub with_flag : ℕ → ℕ × Bor Bool → ℕ
-with_flag row x = cond x.1.now (with_role row x) row
-
-read_flag : (b : Bool) (bs : List Bool) (row i n : ℕ) → i < 64 → n ≡ i → get_or bs i false ≡ b → Read bs row i → Read bs (cond b (cond (ltb n 64) (bit_or row (2 ^ n)) row) row) (i + 1)
-read_flag true bs row i n l e h o = read_set bs row _ i l (λ j. cond (ltb (e j) 64) (bit_or row (2 ^ e j)) row) h o
-read_flag false bs row i n l e h o = read_off bs row i h o
-
-read_from : (bs : List Bool) (i row : ℕ) (items : List (ℕ × Bor Bool)) → length bs ≤ 64 → i + length items ≡ length bs
-    → ((k : ℕ) (x : ℕ × Bor Bool) → slice_get items k ≡ Some x → (x.0 ≡ i + k) × (get_or bs (i + k) false ≡ x.1.now))
-    → Read bs row i → Read bs (fold with_flag row items) (length bs)
-read_from bs i row [] few n h o = let e : i ≡ length bs = omega (arith, n) in subst (Read bs row) e o
-read_from bs i row (x ∷ items) few n h o =
-    let here = h 0 x refl in
-    let place : i ≡ i + 0 = omega arith in
-    let small : i < 64 = omega (arith, n) in
-    let role : x.0 ≡ i = omega (arith, here.0) in
-    read_from bs (i + 1) (with_flag row x) items few (omega (arith, n))
-    (λ k y e. let next : i + 1 + k ≡ i + suc k = omega arith in let there = h (suc k) y e in (there.0 ∙ sym next, ap (λ j. get_or bs j false) next ∙ there.1))
-    (read_flag x.1.now bs row i x.0 small role (ap (λ j. get_or bs j false) place ∙ here.1) o)
-
--- flags with their numbers, read one after another
-pub read_word : {S T : Type 0} {steps : S → Option (ℕ × Bor Bool) → S → Type 0} {source : T → Option (Bor Bool) → T → Type 0} (q : Run steps) (z : Run source) (bs xs : List Bool)
-    → xs ≡ bs → length bs ≤ 64 → z.whole ≡ true → ((k : ℕ) → IfSome (q.at k) (λ x. x.0 ≡ k)) → ProjectsRun q z (λ x. x.1) → ItemsMapTo z (λ y. y.now) xs
-    → fold with_flag 0 q.items ≡ word bs
-unfolding YieldsRun
-read_word q z bs xs same few whole numbered shown items =
-    let many : length q.items ≡ length bs = sym q.long ∙ sym shown.0 ∙ items.1 whole ∙ ap (λ (x : List Bool). length x) same in
-    read_all bs _ (read_from bs 0 0 q.items few (omega (arith, many))
-    (λ k x is.
-    let at : q.at k ≡ Some x = q.gave.1 k ∙ is in
-    let flag : z.at k ≡ Some x.1 = shown.2 k ∙ ap (option_map (λ y. y.1)) at in
-    let in_range : k < z.len = omega (arith, shown.0, q.long, slice_get_within q.items k x is) in
-    let read : Some x.1.now ≡ Some (get_or xs k false) = sym (ap (option_map (λ y. y.now)) flag) ∙ items.2 k false in_range in
-    let held : get_or xs k false ≡ x.1.now = cc in
-    let place : 0 + k ≡ k = omega arith in
-    (MatchOption-at_some _ _ x at (numbered k) ∙ sym place, ap (λ j. get_or bs j false) place ∙ ap (λ y. get_or y k false) (sym same) ∙ held))
-    (record { done = λ k h. absurd (omega arith); rest = λ k h. bit_zero k }))
+pub read_back : (bs : List Bool) → length bs ≤ 64 → fold moved_up 0 (reverse bs) ≡ word bs
+unfolding word
+read_back [] few = refl
+read_back (b ∷ bs) few =
+    ap (fold moved_up 0) (reverse-append (b ∷ []) bs)
+    ∙ fold_push moved_up 0 (reverse bs) b
+    ∙ ap (λ w. moved_up w b) (read_back bs (omega (arith, few)))
+    ∙ moved_word b (word bs) (lt_of_lt_of_le (word_below bs) (pow_mono {j = 63} (omega (arith, few))))
 
 -- ---- counting the flags that are set
 word_ones : (bs : List Bool) → ones (word bs) ≡ count_by (λ b. b) bs
@@ -249,25 +199,24 @@ flag_of fs bs r k e h l =
     ∙ ap digit (get_or-take 64 (drop (k * 64) (in_use fs)) r false l ∙ get_or-drop (k * 64) (in_use fs) r false ∙ get_or-take (64 * n) fs (k * 64 + r) false (omega arith) ∙ ap (λ j. get_or fs j false) place)
     ∙ sym (bit_flag n fs k r h l)
 
+-- each adds one at most
+counted_most : (r a : ℕ) (items : List (Bor (List Bool))) → fold (λ n x. n + digit (get_or x.now r false)) a items ≤ a + length items
+counted_most r a [] = omega arith
+counted_most r a (x ∷ items) = omega (arith, counted_most r (a + digit (get_or x.now r false)) items, digit_two (get_or x.now r false))
+
+-- and there are 4,096 at most
+pub counted_few : {S : Type 0} {steps : S → Option (Bor (List Bool)) → S → Type 0} (q : Run steps) (xs : List Bool) (r n : ℕ)
+    → n ≡ 64 → length xs ≤ 64 * 4096 → IsChunksExactRun q n xs → fold (λ m x. m + digit (get_or x.now r false)) 0 q.items ≤ 4096
+counted_few q xs r n e few cut = omega (arith, counted_most r 0 q.items, q.long, cut.0, ap (λ k. q.len * k) e)
+
 -- the chunks of 64 of the flags in use are the users' flags
-pub counted_members : {S : Type 0} {steps : S → Option (Bor (List Bool)) → S → Type 0} (q : Run steps) (fs xs : List Bool) (r n : ℕ)
+pub counted_members : {S : Type 0} {steps : S → Option (Bor (List Bool)) → S → Type 0} (q : Run steps) (fs xs : List Bool) (r n : ℕ) → r < 64
     → n ≡ 64 → xs ≡ in_use fs → q.whole ≡ true → IsChunksExactRun q n xs → fold (λ m x. m + digit (get_or x.now r false)) 0 q.items ≡ members (rows_of fs) r
 unfolding YieldsRun
-counted_members q fs xs r n e same whole cut =
+counted_members q fs xs r n l e same whole cut =
     let size : length xs ≡ 64 * users_in fs = omega (arith, ap (λ (x : List Bool). length x) same, length-take (64 * users_in fs) fs) in
     let many : length q.items ≡ users_in fs = sym q.long ∙ cut.1 whole ∙ ap (λ k. length xs / k) e ∙ omega (arith, size) in
-    let at : (k : ℕ) (x : Bor (List Bool)) → slice_get q.items k ≡ Some x → (length x.now ≡ 64) × (x.now ≡ take 64 (drop (k * 64) (in_use fs))) = λ k x is.
+    let at : (k : ℕ) (x : Bor (List Bool)) → slice_get q.items k ≡ Some x → x.now ≡ take 64 (drop (k * 64) (in_use fs)) = λ k x is.
     let part = MatchOption-at_some _ _ x (q.gave.1 k ∙ is) (cut.2 k) in
-    (part.0 ∙ e, part.2.0 ∙ (λ i. take (e i) (drop (k * e i) (same i)))) in
-    elim (cases_lt r 64) [
-      | inl l ↦ omega (arith, members_low (rows_of fs) r l, counted r 0 q.items (rows_of fs) (many ∙ sym (length_from (users_in fs) fs)) (λ k x is. flag_of fs x.now r k (at k x is).1 (omega (arith, many, slice_get_within q.items k x is)) l))
-      | inr g ↦
-          let m = length q.items in
-          omega (
-            arith,
-            members_high (rows_of fs) r g,
-            none_members m r,
-            counted r 0 q.items (replicate m 0) (sym (length-replicate m 0)) (λ k x is.
-                ap digit (get_or_past x.now r false (omega (arith, (at k x is).0))) ∙ sym (ap (λ w. bit w r) (none_row m k) ∙ bit_zero r)),
-          )
-    ]
+    part.2.0 ∙ (λ i. take (e i) (drop (k * e i) (same i))) in
+    omega (arith, members_low (rows_of fs) r l, counted r 0 q.items (rows_of fs) (many ∙ sym (length_from (users_in fs) fs)) (λ k x is. flag_of fs x.now r k (at k x is) (omega (arith, many, slice_get_within q.items k x is)) l))

@@ -1,6 +1,6 @@
 -- Flags as a word, and as rows. Assumes nothing.
-use Rattle.std.proofs.Common.{◌≡◌, ℕ, zero, suc, ◌+◌, ◌*◌, ◌/◌, ◌<◌, ◌≤◌, Bool, false, cond, List, [], ◌∷◌, length, get_or, take, drop, sym, ap, ◌∙◌, inl, inr, arith}
-use Rattle.std.proofs.lemmas.List.{get_or-drop, get_or-take, get_or_past, length-take}
+use Rattle.std.proofs.Common.{◌≡◌, ℕ, zero, suc, ◌+◌, ◌*◌, ◌/◌, ◌<◌, Bool, false, cond, List, [], ◌∷◌, get_or, take, drop, sym, ap, ◌∙◌, inl, inr, arith}
+use Rattle.std.proofs.lemmas.List.{get_or-drop, get_or-take, get_or_past}
 use Rattle.std.proofs.lemmas.Bool.{cases_lt, lt-ltb, le-ltb}
 use Rattle.terms.specs.Sets.{bit}
 use Rattle.terms.proofs.Bits.{bit_zero, bit_first, bit_next}
@@ -24,12 +24,6 @@ bit_flag n fs u r h l =
     ∙ ap digit (get_or-take 64 (drop (64 * u) fs) r false l ∙ get_or-drop (64 * u) fs r false)
 
 -- ---- one user's flags
-pub few_flags : (fs : List Bool) (u : ℕ) → length (flags_of fs u) ≤ 64
-few_flags fs u = elim (cases_lt u (users_in fs)) [
-  | inl l ↦ omega (arith, length-take 64 (drop (64 * u) fs), ap (λ b. length (cond b (take 64 (drop (64 * u) fs)) [])) (lt-ltb u (users_in fs) l))
-  | inr g ↦ omega (arith, ap (λ b. length (cond b (take 64 (drop (64 * u) fs)) [])) (le-ltb u (users_in fs) g))
-]
-
 pub user_row : (fs : List Bool) (u : ℕ) → word (flags_of fs u) ≡ row (rows_of fs) u
 unfolding word
 user_row fs u = elim (cases_lt u (users_in fs)) [

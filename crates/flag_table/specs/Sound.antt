@@ -18,7 +18,7 @@ digit_two true = omega arith
 digit_two false = omega arith
 
 -- flags are a word of as many bits
-word_below : (bs : List Bool) → word bs < 2 ^ length bs
+pub word_below : (bs : List Bool) → word bs < 2 ^ length bs
 unfolding word
 word_below [] = omega arith
 word_below (b ∷ bs) = omega (arith, digit_two b, word_below bs, pow-suc 2 (length bs))

@@ -1,13 +1,12 @@
 // A register of an integrator's own: one lent flag for each user and role. It is made of the trait alone.
 #![tactic(auto)]
 
-ghost use Rattle.std.specs.Prelude.{◌≡◌, ◌≤◌, [], ◌∷◌, ◌++◌, false, MatchOption, length, drop, replicate};
+ghost use Rattle.std.specs.Prelude.{◌≡◌, ◌*◌, ◌≤◌, [], ◌∷◌, ◌++◌, false, MatchOption, length, drop, replicate};
 ghost use Rattle.register.specs.Pairs.{pairs, members};
 ghost use Rattle.flag_table.specs.Flags.{rows_of, users_in, in_use, flags_of, word, model_of, spare_of, Inside, Outside};
 ghost use Rattle.flag_table.specs.Sound.{flags_sound};
 
 use register::{Register, RegisterFault};
-use terms::sets::with_member;
 
 // The flag of user u and role r is at 64 * u + r; every role has the same number of seats.
 #[derive(Drop)]
@@ -35,7 +34,8 @@ impl<'a> FlagTable<'a> {
 
     // The flags in use.
     fn used(&self) -> &[bool]
-        ensures { result.now ≡ in_use self.now.flags.now }
+        ensures flags { result.now ≡ in_use self.now.flags.now }
+        ensures few { length result.now ≤ 64 * 4096 }
     {
         &self.flags[..64 * self.user_count() as usize]
     }
@@ -53,7 +53,8 @@ impl<'a> FlagTable<'a> {
 
     // The user's flags; none where he is not below the number of users.
     fn flags_of(&self, user: u32) -> &[bool]
-        ensures { result.now ≡ flags_of self.now.flags.now user }
+        ensures flags { result.now ≡ flags_of self.now.flags.now user }
+        ensures few { length result.now ≤ 64 }
     {
         if user >= self.user_count() {
             return &[];
@@ -66,17 +67,20 @@ impl<'a> FlagTable<'a> {
     fn pair_count(&self) -> u32
         ensures { result ≡ pairs (rows_of self.now.flags.now) }
     {
-        self.used().iter().filter(|held| **held).count() as u32
+        self.used().iter().map(|held| *held as u32).sum()
     }
 
     // The number of users whose flag for the role is set; no flag is for a role above 63.
     fn member_count(&self, role: u32) -> u32
         ensures { result ≡ members (rows_of self.now.flags.now) role }
     {
+        if role > 63 {
+            return 0;
+        }
         self.used()
             .chunks_exact(64)
-            .filter(|flags| flags.get(role as usize).copied().unwrap_or(false))
-            .count() as u32
+            .map(|flags| flags.get(role as usize).copied().unwrap_or(false) as u32)
+            .sum()
     }
 }
 
@@ -154,9 +158,8 @@ fn word_of(flags: &[bool]) -> u64
 {
     flags
         .iter()
-        .enumerate()
-        .filter(|(_, held)| **held)
-        .fold(0, |row, (role, _)| with_member(row, role as u32))
+        .rev()
+        .fold(0, |row, held| (row << 1) | *held as u64)
 }
 
 // Takes the first so many flags away. In the body of `clear` the proof would lack all but the length of the flags after the

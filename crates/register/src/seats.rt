@@ -68,6 +68,9 @@ impl<R: Register> Register for SeatLayer<R> {
     }
 
     fn seats(&self, role: u32) -> u32 {
+        if role > 63 {
+            return 0; // without asking the layers below
+        }
         self.own_seats(role).min(self.below.seats(role))
     }
 
