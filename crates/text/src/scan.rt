@@ -53,7 +53,7 @@ impl<'a> Reader<'a> {
         match &self.text[self.at..] {
             [] => Some((Mark::End, self.at)),
             [b',', ..] => Some((Mark::Comma, self.at + 1)),
-            [b'\r', b'\n', ..] => Some((Mark::Line, self.at + 2)),
+            [b'\r', after @ ..] if matches!(after, [b'\n', ..]) => Some((Mark::Line, self.at + 2)),
             _ => None,
         }
     }
