@@ -37,9 +37,15 @@ impl<'a> Reader<'a> {
         let text = self.text;
         let mut rest = &text[self.at..];
         'content: loop {
+            // a loop of its own, since a match that passes over each byte takes more steps
+            'run: while let [b, after @ ..] = rest {
+                if *b == b'"' {
+                    break;
+                }
+                rest = after;
+            }
             match rest {
                 [] => return None,
-                [b, after @ ..] if *b != b'"' => rest = after,
                 [_, b'"', after @ ..] => rest = after,
                 _ => return Some(text.len() - rest.len()),
             }
