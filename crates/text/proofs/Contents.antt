@@ -1,9 +1,9 @@
 -- A content is determined by what stands in the text for it. Assumes nothing.
-use Rattle.std.proofs.Common.{◌≡◌, ℕ, zero, suc, ◌+◌, ◌-◌, ◌<◌, ◌≤◌, List, [], ◌∷◌, ◌++◌, length, get_or, take, drop, sym, refl, ap, ◌∙◌, subst, ⊎_elim, arith, length-drop}
-use Rattle.std.proofs.lemmas.List.{take-append-drop, drop-drop, get_or-drop, take_rest}
+use Rattle.std.proofs.Common.{◌≡◌, ℕ, ◌+◌, ◌<◌, List, [], ◌∷◌, ◌++◌, length, get_or, drop, sym, refl, ap, ◌∙◌, subst, ⊎_elim, append_assoc, arith}
+use Rattle.std.proofs.lemmas.List.{drop_more}
 use Rattle.std.proofs.lemmas.Bool.{cases_eq, ne_eqb}
 use Rattle.text.specs.Grammar.{Plain, AllPlain, escape}
-use Rattle.text.specs.Scans.{PlainTo, PlainRun, NoQuote}
+use Rattle.text.specs.Scans.{PlainTo, NoQuote}
 
 -- a list that does not begin with a plain byte
 abbrev pub Stopped : List ℕ → Type 0
@@ -71,26 +71,17 @@ escape_unique (x ∷ c) (y ∷ d) t u n m e =
     (cases_eq y 34))
     (cases_eq x 34)
 
-all_plain : (s : List ℕ) (n : ℕ) → n ≤ length s → ((k : ℕ) → k < n → Plain (get_or s k 0)) → AllPlain (take n s)
-all_plain s zero l h = tt
-all_plain [] (suc n) l h = absurd (omega arith)
-all_plain (b ∷ s) (suc n) l h = (h 0 (omega arith), all_plain s n (omega arith) (λ k w. h (suc k) (omega arith)))
+pub plain_push : (c : List ℕ) (b : ℕ) → AllPlain c → Plain b → AllPlain (c ++ b ∷ [])
+plain_push [] b a p = (p, tt)
+plain_push (x ∷ c) b a p = (a.0, plain_push c b a.1 p)
 
--- a run from a place on goes to where it ends
-pub plain_to : (s : List ℕ) (from n : ℕ) → PlainRun (take (length s - from) (drop from s)) n → PlainTo s from (from + n)
-plain_to s from n h =
-    let r : PlainRun (drop from s) n = subst (λ t. PlainRun t n) (take_rest s from) h in
-    (take n (drop from s), all_plain (drop from s) n r.within r.plain, sym (take-append-drop n (drop from s)) ∙ ap (λ u. take n (drop from s) ++ u) (drop-drop n from s))
-
-pub plain_within : (s : List ℕ) (from n : ℕ) → from ≤ length s → PlainRun (take (length s - from) (drop from s)) n → from + n ≤ length s
-plain_within s from n w h =
-    let r : PlainRun (drop from s) n = subst (λ t. PlainRun t n) (take_rest s from) h in
-    omega (arith, r.within, length-drop from s)
-
-pub plain_stops : (s : List ℕ) (from n : ℕ) → from ≤ length s → PlainRun (take (length s - from) (drop from s)) n → from + n < length s → Plain (get_or s (from + n) 0) → ⊥
-plain_stops s from n w h l p =
-    let r : PlainRun (drop from s) n = subst (λ t. PlainRun t n) (take_rest s from) h in
-    r.stops (omega (arith, length-drop from s)) (subst Plain (sym (get_or-drop from s n 0)) p)
+-- one plain byte more
+pub plain_more : (s : List ℕ) (from i : ℕ) → i < length s → PlainTo s from i → Plain (get_or s i 0) → PlainTo s from (i + 1)
+plain_more s from i l h p = (
+  h.0 ++ get_or s i 0 ∷ [],
+  plain_push h.0 _ h.1 p,
+  h.2 ∙ ap (λ u. h.0 ++ u) (drop_more s i 0 l) ∙ sym (append_assoc h.0 (get_or s i 0 ∷ []) (drop (i + 1) s)),
+)
 
 -- a content that is never closed is none that is closed
 pub escape_open : (c d u : List ℕ) → NoQuote u → escape c ≡ escape d ++ 34 ∷ u → ⊥

@@ -8,12 +8,6 @@ use Rattle.text.specs.Grammar.{Plain, AllPlain, escape, body, written, Proper, s
 abbrev pub NoQuote : List ℕ → Type 0
 NoQuote t = slice_index t 0 ≡ 34 → ⊥
 
--- the first n bytes are plain, and the next, if there is one, is not
-pub record PlainRun (s : List ℕ) (n : ℕ) : Type 0 where
-  pub plain : (k : ℕ) → k < n → Plain (slice_index s k)
-  pub within : n ≤ length s
-  pub stops : n < length s → Plain (slice_index s n) → ⊥
-
 -- the bytes from `from` on, up to i, are plain
 abbrev pub PlainTo : List ℕ → ℕ → ℕ → Type 0
 PlainTo s from i = (c : List ℕ) × AllPlain c × (drop from s ≡ c ++ drop i s)

@@ -39,7 +39,9 @@ impl<'a> Reader<'a> {
         self.at == self.text.len()
     }
 
-    // Hands out the next field, or refuses and stays where it stands.
+    // Hands out the next field, or refuses and stays where it stands. Inlined, since for a short field the call and its result
+    // cost as much as the search.
+    #[inline]
     pub fn next_field(&mut self) -> Result<Field<'a>, TextFault>
         ensures same { self.new.text ≡ self.old.text }
         ensures field { MatchResult result (λ f. Took self.old.text.now self.old.at f self.new.at) (λ e. FieldRefused self.old.text.now self.old.at e × (self.new.at ≡ self.old.at)) }

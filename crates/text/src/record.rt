@@ -24,7 +24,9 @@ fn keep<'a>(slots: &mut [Field<'a>], i: usize, field: Field<'a>)
 }
 
 impl<'a> Reader<'a> {
-    // Reads the record that begins here to its end, and keeps the first of its fields in `slots`.
+    // Reads the record that begins here to its end, and keeps the first of its fields in `slots`. Inlined, so that a caller
+    // without slots keeps nothing.
+    #[inline(always)]
     pub(crate) fn record(&self, slots: &mut [Field<'a>]) -> Result<Extent, TextFault>
         ensures { MatchResult result (λ x. ReadRecord self.now.text.now self.now.at slots.old slots.new x) (λ e. BrokenRecord self.now.text.now self.now.at slots.old slots.new e) }
     {

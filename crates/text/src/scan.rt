@@ -2,31 +2,27 @@
 ghost use Rattle.std.specs.Prelude.{◌≡◌, ◌<◌, ◌≤◌, length, MatchOption, MatchResult, ◌≢◌, slice_index};
 ghost use Rattle.text.specs.Grammar.{Plain};
 ghost use Rattle.text.specs.FirstLine.{LineAt};
-ghost use Rattle.text.specs.Scans.{PlainTo, PlainRun, Closes, Unclosed, Spans, MarkTo};
+ghost use Rattle.text.specs.Scans.{PlainTo, Closes, Unclosed, Spans, MarkTo};
 ghost use Rattle.text.specs.Faults.{Wrong};
 
 use crate::field::{Mark, Span, TextFault};
 use crate::reader::Reader;
 
-// How many of the first bytes are plain.
-fn plain_run(bytes: &[u8]) -> usize
-    ensures { PlainRun bytes.now result }
-{
-    bytes
-        .iter()
-        .position(|b| matches!(b, b',' | b'"' | b'\r' | b'\n'))
-        .unwrap_or(bytes.len())
-}
-
 impl<'a> Reader<'a> {
     // The first place that holds no plain byte, or the text's end.
-    #[tactic(auto, using(crate::proofs::Contents::plain_to, crate::proofs::Contents::plain_within, crate::proofs::Contents::plain_stops))]
     fn plain_end(&self) -> usize
         ensures within { (self.now.at ≤ result) × (result ≤ length self.now.text.now) }
         ensures run { PlainTo self.now.text.now self.now.at result }
         ensures stops { result < length self.now.text.now → Plain (slice_index self.now.text.now result) → ⊥ }
     {
-        self.at + plain_run(&self.text[self.at..])
+        let text = self.text;
+        // by the place, since `position` over what is left takes more steps for each field
+        for i in self.at..text.len() {
+            if matches!(text[i], b',' | b'"' | b'\r' | b'\n') {
+                return i;
+            }
+        }
+        text.len()
     }
 
     // The place of the quote that closes the content that begins here, if any does.
@@ -37,9 +33,15 @@ impl<'a> Reader<'a> {
         let text = self.text;
         let mut rest = &text[self.at..];
         'content: loop {
+            // a loop of its own, since a match that passes over each byte takes more steps
+            'run: while let [b, after @ ..] = rest {
+                if *b == b'"' {
+                    break;
+                }
+                rest = after;
+            }
             match rest {
                 [] => return None,
-                [b, after @ ..] if *b != b'"' => rest = after,
                 [_, b'"', after @ ..] => rest = after,
                 _ => return Some(text.len() - rest.len()),
             }
@@ -53,7 +55,7 @@ impl<'a> Reader<'a> {
         match &self.text[self.at..] {
             [] => Some((Mark::End, self.at)),
             [b',', ..] => Some((Mark::Comma, self.at + 1)),
-            [b'\r', b'\n', ..] => Some((Mark::Line, self.at + 2)),
+            [b'\r', after @ ..] if matches!(after, [b'\n', ..]) => Some((Mark::Line, self.at + 2)),
             _ => None,
         }
     }
