@@ -52,7 +52,7 @@ impl<'a> Rows<'a> {
         self.words.iter().map(|row| row.count_ones()).sum()
     }
 
-    // The number of a role's members; a role above 63 has none.
+    // The number of a role's members; a role above 63 has none. A sum, since a filter would branch at each row.
     pub(crate) fn members(&self, role: u32) -> u32
         ensures { result ≡ members self.now.words.now role }
     {

@@ -63,7 +63,7 @@ impl<'a> FlagTable<'a> {
         &self.flags[start..start + 64]
     }
 
-    // The number of flags that are set.
+    // The number of flags that are set. A sum, since a filter would branch at each flag.
     fn pair_count(&self) -> u32
         ensures { result ≡ pairs (rows_of self.now.flags.now) }
     {
@@ -75,7 +75,7 @@ impl<'a> FlagTable<'a> {
         ensures { result ≡ members (rows_of self.now.flags.now) role }
     {
         if role > 63 {
-            return 0;
+            return 0; // without a walk over the users
         }
         self.used()
             .chunks_exact(64)
