@@ -1,1 +1,2 @@
 mod Noting
+mod Following

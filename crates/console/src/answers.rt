@@ -1,7 +1,7 @@
 // What calls are answered, and how it is printed.
 ghost use Rattle.std.specs.Prelude.{◌≡◌, Some};
 ghost use Rattle.console.specs.declared.answers.Reply.TheVariants.{Set};
-ghost use Rattle.console.specs.Answering.{reply_text};
+ghost use Rattle.console.specs.Answering.{reply_text, sets_text, breach_text, refusal_text, answer_text};
 
 use judge::{JudgeFault, Witness};
 use plan::PlanFault;
@@ -9,6 +9,7 @@ use script::fields::FieldList;
 use script::sets::Members;
 use std::fmt;
 use terms::refusals::Fault;
+use terms::sets::RoleSet;
 use text::walk::WrongRecord;
 
 // What a call gives that is carried out.
@@ -59,13 +60,15 @@ impl fmt::Display for Reply {
     }
 }
 
-impl fmt::Display for Breach {
+// The roles of users, a set for each.
+#[derive(Drop)]
+struct RoleSets<'a>(&'a [RoleSet]);
+
+impl fmt::Display for RoleSets<'_> {
+    ghost output = { λ r. Some (sets_text r.0.now) };
+
     fn fmt<W: fmt::Write>(&self, f: &mut fmt::Formatter<W>) -> fmt::Result {
-        let number = self.fault.number();
-        let policy = self.witness.policy;
-        let users = self.witness.users;
-        write!(f, "refused {number} policy {policy} users {users} roles")?;
-        for roles in self.witness.roles.iter().take(users) {
+        for roles in self.0 {
             let members = Members { set: *roles };
             write!(f, " {members}")?;
         }
@@ -73,7 +76,24 @@ impl fmt::Display for Breach {
     }
 }
 
+impl fmt::Display for Breach {
+    ghost output = { λ b. Some (breach_text b) };
+
+    fn fmt<W: fmt::Write>(&self, f: &mut fmt::Formatter<W>) -> fmt::Result {
+        let number = self.fault.number();
+        let policy = self.witness.policy;
+        let users = self.witness.users;
+        let sets = RoleSets(&self.witness.roles[..users.min(7)]);
+        write!(
+            f,
+            "refused {number} policy {policy} users {users} roles{sets}"
+        )
+    }
+}
+
 impl fmt::Display for Refusal {
+    ghost output = { λ r. Some (refusal_text r) };
+
     fn fmt<W: fmt::Write>(&self, f: &mut fmt::Formatter<W>) -> fmt::Result {
         match self {
             Refusal::Addition(fault) => {
@@ -85,6 +105,21 @@ impl fmt::Display for Refusal {
                 let number = wrong.number;
                 write!(f, "wrong record {number}")
             }
+        }
+    }
+}
+
+// An answer as it is printed.
+#[derive(Drop)]
+pub(crate) struct Shown<'a>(pub(crate) &'a Answer);
+
+impl fmt::Display for Shown<'_> {
+    ghost output = { λ s. Some (answer_text s.0.now) };
+
+    fn fmt<W: fmt::Write>(&self, f: &mut fmt::Formatter<W>) -> fmt::Result {
+        match self.0 {
+            Ok(reply) => write!(f, "{reply}"),
+            Err(refusal) => write!(f, "{refusal}"),
         }
     }
 }

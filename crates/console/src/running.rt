@@ -1,7 +1,8 @@
 // A whole script: its lines one by one, and the totals.
 ghost use Rattle.std.specs.Prelude.{◌≡◌, ◌+◌, ◌^◌, ◌<◌, ◌≤◌, IfOk, length};
-ghost use Rattle.console.specs.Printed.{Answered, Called};
+ghost use Rattle.console.specs.Printed.{Answered, Called, Lined, Fresh, Transcript};
 
+use super::answers::Shown;
 use super::calls::Call;
 use super::reading::read_call;
 use super::state::State;
@@ -25,7 +26,7 @@ struct Session {
 
 impl Session {
     fn new(heap: Global) -> Session
-        ensures { result.totals.calls ≡ 0 }
+        ensures { Fresh result }
     {
         Session {
             heap,
@@ -42,17 +43,15 @@ impl Session {
     {
         let answer = self.state.perform(call)?;
         self.out.extend_from_slice(line)?;
-        match &answer {
-            Ok(reply) => writeln!(self.out, " -> {reply}")?,
-            Err(refusal) => writeln!(self.out, " -> {refusal}")?,
-        }
+        let shown = Shown(&answer);
+        writeln!(self.out, " -> {shown}")?;
         Ok(Outcome::of(&answer))
     }
 
     // Performs the call of a line, and prints the line with its answer. Gives what became of the call.
     fn perform_call(&mut self, number: usize, line: &[u8]) -> io::Result<Outcome>
         ensures totals { self.new.totals ≡ self.old.totals }
-        ensures called { IfOk result (λ o. Called self.old.state self.old.out.items line.now o self.new.state self.new.out.items) }
+        ensures called { IfOk result (λ o. Called self.old.state self.old.out.items number line.now o self.new.state self.new.out.items) }
     {
         let Some(call) = read_call(self.heap, line)? else {
             writeln!(self.out, "line {number}: not understood")?;
@@ -64,7 +63,8 @@ impl Session {
     // Prints a comment or an empty line as it is, and performs any other line.
     fn perform_line(&mut self, number: usize, line: &[u8]) -> io::Result<()>
         requires { self.old.totals.calls + 1 < 2 ^ 32 }
-        ensures { self.new.totals.calls ≤ self.old.totals.calls + 1 }
+        ensures calls { self.new.totals.calls ≤ self.old.totals.calls + 1 }
+        ensures line { IfOk result (λ u. Lined self.old number line.now self.new) }
     {
         if let [] | [b'#', ..] = line {
             self.out.extend_from_slice(line)?;
@@ -80,6 +80,7 @@ impl Session {
 // What the script prints.
 pub(super) fn run(heap: Global, script: &[u8]) -> io::Result<Vec<u8>>
     requires { length script.now ≤ 1048576 }
+    ensures { IfOk result (λ printed. Transcript script.now printed.items) }
 {
     let mut session = Session::new(heap);
     for (i, line) in Lines::new(script).enumerate() {

@@ -1,7 +1,7 @@
 // How many calls there were, and what became of them.
-ghost use Rattle.std.specs.Prelude.{◌≡◌, ◌+◌, ◌^◌, ◌<◌, ◌++◌, Some, codes, decimal};
+ghost use Rattle.std.specs.Prelude.{◌≡◌, ◌+◌, ◌^◌, ◌<◌, Some};
 ghost use Rattle.console.specs.Answering.{counted};
-ghost use Rattle.console.specs.Tallying.{adds as shares};
+ghost use Rattle.console.specs.Tallying.{adds as shares, totals_text};
 
 use super::answers::Answer;
 use std::fmt;
@@ -64,7 +64,7 @@ impl Totals {
 }
 
 impl fmt::Display for Totals {
-    ghost output = { λ t. Some (decimal t.calls ++ (codes " calls: " ++ (decimal t.accepted ++ (codes " accepted, " ++ (decimal t.refused ++ (codes " refused, " ++ (decimal t.not_understood ++ codes " not understood"))))))) };
+    ghost output = { λ t. Some (totals_text t.calls t.accepted t.refused t.not_understood) };
 
     fn fmt<W: fmt::Write>(&self, f: &mut fmt::Formatter<W>) -> fmt::Result {
         let calls = self.calls;
