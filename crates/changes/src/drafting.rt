@@ -74,7 +74,8 @@ impl Draft {
         changes
     }
 
-    // Spends the draft; nothing comes of it.
+    // Spends the draft; nothing comes of it. It gives nothing and was lent nothing, so there is nothing for a clause to say: that
+    // a draft is used once is its type's promise.
     pub fn strike(self) {
         let Draft { changes: _ } = self;
     }
